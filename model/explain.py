@@ -88,7 +88,8 @@ def right_line(world: World, i: int) -> str:
 
 
 def explained(world: World, asked: Request) -> str:
-    """Returns the explanation of a requested move, before the world has answered it, or an empty text if the request isn't a move of an existing node."""
+    """Returns the explanation of a requested move, before the world has answered it, or an empty text if the request isn't a move of an existing node.
+    It begins with the part of the guard that fails, if the request names the present configuration and a node without a chosen move."""
     if asked.do != "move" or asked.node not in world.links:
         return ""
     parts = [failing(world, asked.node, asked.move)] if asked.at == world.number and asked.node not in world.chosen else []
@@ -103,6 +104,7 @@ def explanations(lab: Lab, script: bytes) -> list[str]:
         if read is None:
             break
         asked = read_request(read[1])
+        # The explanation comes first, since an answer that grants the request changes the world.
         text = explained(run.world, asked) if asked is not None else ""
         if '"deny"' in run.answer(*read) and text and asked is not None:
             found.append(f"{number} {asked.node} {text}")

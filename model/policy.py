@@ -1,6 +1,5 @@
-"""The policy: who may see and do what. The clauses of each request are checked in order, and the first one that fails
-is the denial. A clause is returned as its name for programs. The *world* is the network with its registers and chosen
-moves, and `who` is the name of the one who asks."""
+"""The policy: who may see and do what. The clauses of each request are checked in order, and the first one that fails is the denial. A clause is
+returned as its name for programs. The *world* is the network with its registers and chosen moves, and `who` is the name of the one who asks."""
 from model.lab import Lab
 from model.requests import Request
 from model.world import World

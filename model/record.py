@@ -14,13 +14,14 @@ from model.run import LONGEST_REQUEST, answer
 
 MOST_BEGUN, MOST_RECORD, NEWLINE = 20, 2**30, b"\n"
 BYE, NO_MEMORY, NO_JOURNAL = b'{"ok":"bye"}', b'{"refuse":"memory"}', b'{"refuse":"journal"}'
-NUMERAL = rb"(0|[1-9][0-9]{0,19})"
+NUMERAL = rb"(?:0|[1-9][0-9]{0,19})"
 # Each line of an entry begins with a stamp: the number of the seat, and the number of events seen before the entry.
-STAMP = rb"%s %s " % (NUMERAL, NUMERAL)
+STAMP = rb"(?P<seat>%s) (?P<seen>%s) " % (NUMERAL, NUMERAL)
 ASKED = re.compile(STAMP + rb"> ")
-# The patterns of entries: of a line with its reply, and of a mark. `Seat.take` has what each kind of entry means.
-SAID = re.compile(STAMP + rb"(>) ([^\n]*)\n" + STAMP + rb"< ([^\n]*)\n")
-MARK = re.compile(STAMP + rb"(?:([.!-])|(\+) %s)\n" % NUMERAL)
+# The patterns of entries: of a line with its reply, which has the same stamp, and of a mark. The mark `+` has the number
+# of the lines that weren't recorded. `Seat.take` has what each kind of entry means.
+SAID = re.compile(STAMP + rb"> (?P<line>[^\n]*)\n(?P=seat) (?P=seen) < (?P<reply>[^\n]*)\n")
+MARK = re.compile(STAMP + rb"(?:(?P<mark>[.!-])|\+ (?P<missed>%s))\n" % NUMERAL)
 # The stages of a session. FRESH: nothing was recorded yet. OPEN: lines may come. OVER: after a bye. CUT: entries may be
 # missing up to the end. PAUSED: recording has paused. RESUMING: it resumes, and a granted hello or the end has to follow.
 FRESH, OPEN, OVER, CUT, PAUSED, RESUMING = "fresh", "open", "over", "cut", "paused", "resuming"
@@ -33,7 +34,7 @@ def is_command(line: bytes) -> bool:
 
 
 class Entry(NamedTuple):
-    """An entry: its mark, the number of events seen before it, where its text ends, and the two texts of an answered line."""
+    """An entry: its mark (`>` for an answered line), the number of events seen before it, where its text ends, and an answered line's two texts."""
 
     mark: bytes
     seen: int
@@ -87,10 +88,10 @@ class Seat:
     def entry(self, text: bytes, at: int) -> Entry | str:
         """Returns the entry that begins at the byte `at` of the text, or as a string the reason why there is none."""
         said, mark = SAID.match(text, at), MARK.match(text, at)
-        if said and self.is_stamp(said) and said.group(1, 2) == said.group(5, 6):
-            return Entry(said[3], int(said[2]), said.end(), said[4], said[7])
-        if mark and self.is_stamp(mark) and int(mark[5] or 0) <= GREATEST:
-            return Entry(mark[3] or mark[4], int(mark[2]), mark.end())
+        if said and self.is_stamp(said):
+            return Entry(b">", int(said["seen"]), said.end(), said["line"], said["reply"])
+        if mark and self.is_stamp(mark) and int(mark["missed"] or 0) <= GREATEST:
+            return Entry(mark["mark"] or b"+", int(mark["seen"]), mark.end())
         # The text breaks off within the entry if its first line has no newline, or is one with `>` and the next line has none.
         line, newline, rest = text[at:].partition(b"\n")
         asked = ASKED.match(line)
@@ -99,7 +100,7 @@ class Seat:
     def is_stamp(self, found: re.Match[bytes]) -> bool:
         """Checks the first stamp in `found`, a match of a pattern that begins with STAMP. Returns whether the stamp has
         the number of this seat, and a number of events that fits into 64 bits."""
-        return int(found[1]) == self.number and int(found[2]) <= GREATEST
+        return int(found["seat"]) == self.number and int(found["seen"]) <= GREATEST
 
     def advance(self) -> None:
         """Applies the next event of the journal to the seat's world."""
@@ -115,6 +116,7 @@ class Seat:
             return "goes ahead"
         while self.world.place < entry.seen:
             self.advance()
+        # The first of the refusals comes after the fewest events, so it is enough to look at that one.
         self.outlived += [halt for halt in self.halts[:1] if halt < entry.seen]
         # The session ended, and the next one begins: nobody is known.
         if entry.mark == b".":
@@ -171,7 +173,7 @@ class Seat:
             self.record.said.append(said)
             self.halts += [place] if entry.reply == NO_JOURNAL else []
             return None
-        # An event that the line grants must be the next one of the journal.
+        # An event that the line grants must be the next one of the journal. Lists are compared, because the journal may have no next one.
         event = found.event and [Event(place + 1, self.world.number, str(self.known), found.event)]
         # A view that was shown has no entry.
         is_reply = not found.is_view and entry.reply == found.reply.encode("ascii")
@@ -203,9 +205,8 @@ class Seat:
 
 
 def check_places(record: Record, events: int) -> None:
-    """Raises `Fault` if the seats' replies grant a place from before the record, or a place twice. If the record is
-    whole, also raises it for a place after its beginning that no reply grants. The journal has `events` events, with
-    the places from 1."""
+    """Raises `Fault` if the seats' replies grant a place from before the record, or a place twice. If the record is whole, also raises it for a place after
+    its beginning that no reply grants. The journal has `events` events, with the places from 1."""
     seen: set[int] = set()
     for place in record.granted:
         if place <= record.begun or place in seen:

@@ -21,13 +21,13 @@ def look(world: World, i: int) -> dict[str, Any]:
 
 
 def witness(world: World, rules: dict[int, str | None], a: int, b: int) -> tuple[int, str]:
-    """Returns the witness of the open link with the ends a and b, of which a is the lower one, and the witness's
-    enabled rule. `rules` has the enabled rule of each node.
+    """Returns the witness of the open link with the ends a and b, a the lower one, and its enabled rule. `rules` has the enabled rule of each node.
 
     A walk follows the pointers from a, and then one from b, to the first node that is privileged or points at none. The
     walk's end is the witness if a rule other than seduction is enabled there. If neither end is, a is it, by seduction."""
     for i in (a, b):
         j = world.p[i]
+        # This loop ends: a free node that isn't privileged points at none, or at one with a greater number that is free or privileged.
         while rules[i] is None and j is not None:
             i, j = j, world.p[j]
         rule = rules[i]

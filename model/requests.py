@@ -86,9 +86,7 @@ def document(line: bytes) -> dict[str, Any]:
     text = line.decode("utf-8")
     if depth(text) > DEEPEST:
         raise Malformed("nested too deep")
-    value = json.loads(
-        text, parse_int=integer, parse_float=finite, parse_constant=no_constant, object_pairs_hook=members
-    )
+    value = json.loads(text, parse_int=integer, parse_float=finite, parse_constant=no_constant, object_pairs_hook=members)
     if not isinstance(value, dict):
         raise Malformed("no object")
     return value

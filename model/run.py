@@ -112,5 +112,5 @@ def play(lab: Lab, script: bytes) -> tuple[Run, int | None]:
         if read is None:
             return run, k
         run.answer(*read)
-    # Bytes after the last newline are no line, and get no reply.
+    # Bytes after the last newline are no line, and get no reply. But if they are more than a line may have, they are wrong.
     return run, len(lines) + 1 if len(last) > LONGEST_LINE else None

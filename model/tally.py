@@ -136,8 +136,7 @@ def rounds_since(lab: Lab, events: list[Event]) -> int:
     """Returns how many rounds ended since the last fault, link or cut.
 
     A node has its turn in a round if at some point no rule is enabled there, or if a close applies its move. A round ends with the
-    close by which each node has had its turn, and there the next one begins.
-    """
+    close by which each node has had its turn, and there the next one begins."""
     world, rounds = lab.opening(), 0
     waiting = privileged(world)
     for event in events:

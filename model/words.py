@@ -28,9 +28,8 @@ def check(lab: Lab) -> bytes:
 
 
 def script(lab: Lab, file: str, journal: str | None = None) -> bytes:
-    """Returns what the command `script` prints: the replies to the script in a file. If a journal's file is named,
-    writes it. Raises `Fault` at a wrong line, or if a file can't be read or written. Also raises it if the journal's
-    file has content, which the proved program would keep under another name."""
+    """Returns what the command `script` prints: the replies to the script in a file. If a journal's file is named, writes it. Raises `Fault` at a wrong line,
+    or if a file can't be read or written. Also raises it if the journal's file has content, which the proved program would keep under another name."""
     kept = None if journal is None else Path(journal)
     if kept is not None and kept.exists() and (not kept.is_file() or kept.stat().st_size > 0):
         raise Fault("journal fault", 4)

@@ -42,6 +42,7 @@ class Estimates(unittest.TestCase):
         self.assertEqual([Progress(USES, SECONDS, number).left(0.0) for number in (1, 2, 4)], [185.0, 125.0, 125.0])
         progress = Progress(USES, SECONDS, 2)
         progress.begun = {"a": 0.0, "b": 0.0}
+        # The longest chain is b, d and e: 40 seconds of b are left, and then d and e take 20 and 5.
         self.assertEqual(progress.left(60.0), 65.0)
         progress.note("b", True, 0.0)
         progress.note("a", True, 0.0)
@@ -67,6 +68,7 @@ class Estimates(unittest.TestCase):
         progress = Progress(USES, seconds, 1)
         progress.begun = {"b": 0.0}
         progress.note("b", False, 20_000.0)
+        # By the table, b takes 10,000 seconds, and the others 8,500 in all.
         self.assertAlmostEqual(progress.left(20_000.0) / 8_500, 2.0, delta=0.05)
         progress.begun = {"a": 20_000.0}
         self.assertGreater(progress.left(2_000_000.0), 2 * 7_500)
@@ -90,6 +92,7 @@ class Builds(InClone):
             file.touch()
         done = self.call("./mml")
         self.assertEqual((done.returncode, done.stdout), (0, "new\n"), done.stderr)
+        # All paths except for the crates' own folders and their folders `src`.
         files = {it for it in (self.room / "seen").read_text(encoding="utf-8").splitlines() if it.count("/") != 1 and not it.endswith("src")}
         self.assertEqual(files, {
             ".git", "HANDLES", "crates", "crates.txt", "crates/low/src/lib.rt", "crates/low/specs", "crates/low/specs/Lib.antt",
@@ -108,6 +111,7 @@ class Builds(InClone):
         told = [line.split() for line in (self.room / "processors").read_text(encoding="utf-8").splitlines()]
         self.assertEqual(told[0], ["mml_host", "4", str(number)])
         each = {crate: int(processors) for crate, _, processors in told[1:]}
+        # A proof that gets all processors sees twice as many, since `rt` takes half of those that it sees (tools/build/wide.py).
         self.assertEqual((each["low"], each["left"], each["right"]), (2 * number, 2 * number, number))
 
     def test_a_proof_that_runs_alone_is_given_twice_the_memory(self) -> None:
@@ -171,6 +175,7 @@ class Builds(InClone):
         while b"4 of 4 crates proved" not in said:
             said += os.read(ours, 1000)
         self.assertEqual(going.wait(LIMIT), 0)
+        # The two lines before the progress line end with these words.
         shown = said.decode().replace("\r\n", "\n").rpartition("without proofs\n")[2].split("\r")
         self.assertGreater(len(shown), 2, said)
         self.assertTrue(all(re.match(r"mml: \d of 4 crates proved", line) for line in shown[1:]), shown)

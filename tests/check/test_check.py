@@ -248,7 +248,7 @@ class Ends(InTree):
         self.assertEqual(self.check("quick").returncode, 0)
 
     def kill_check(self, kill: Callable[[int], None]) -> int:
-        """Starts a check, and calls `kill`, which kills a process, with the number of the check's process. Checks that
+        """Starts a check, and calls `kill`, which kills a process or a group, with the number of the check's process. Checks that
         nothing is left of the check, and that the next one passes. Returns the status of the killed check."""
         for name in ("begun", "pids"):
             (self.room / name).unlink(missing_ok=True)

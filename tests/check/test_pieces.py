@@ -108,6 +108,7 @@ class Sharing(unittest.TestCase):
                 lines = log.read_text(encoding="utf-8").splitlines()
                 at = lines.index("begin w")
                 self.assertEqual(lines[at + 1], "end w")
+                # When `w` begins, each part that has begun has ended.
                 beside = sum(1 if line.startswith("begin") else -1 for line in lines[:at])
                 self.assertEqual(beside, 0)
                 if processors == 1:

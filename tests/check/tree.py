@@ -122,6 +122,7 @@ def end_check(going: subprocess.Popen[str]) -> None:
 def is_there(pid: int) -> bool:
     """Returns whether a process with this number is running."""
     try:
+        # The letter after the name in parentheses is the process's state. Z is that of one that has ended.
         return Path(f"/proc/{pid}/stat").read_text(encoding="utf-8").rpartition(") ")[2][0] != "Z"
     except OSError:
         return False

@@ -96,7 +96,7 @@ class Host:
     def dismiss(self, teacher: "Caller", seconds: float = LIMIT) -> Ended:
         """Says bye on the teacher's connection at the desk, which ends the class, and waits for the end of the host.
         Returns the host's status, and its output after the first line. Fails if the bye isn't answered, or if the host
-        doesn't end within `seconds` seconds."""
+        doesn't end within `seconds` seconds. A `Talk` doesn't notice this bye, so the caller has to `note` it."""
         if (teacher.ask(BYE), teacher.line()) != (BID, b""):
             fail("host: another reply to the teacher's bye at the desk, or none")
         return self.end(seconds)

@@ -56,10 +56,10 @@ class Preloaded:
         self.variable = counts
         self.file = room / f"{self.library.stem}.counts"
 
-    def variables(self, told: Mapping[str, str]) -> dict[str, str]:
-        """Returns the environment of a run with the library and these variables, and resets the library's counts."""
+    def variables(self, more: Mapping[str, str]) -> dict[str, str]:
+        """Returns the environment of a run with the library and the variables in `more`. Resets the library's counts."""
         self.file.write_bytes(bytes(16))  # two numbers of eight bytes
-        return {"LD_PRELOAD": str(self.library), self.variable: str(self.file), **told}
+        return {"LD_PRELOAD": str(self.library), self.variable: str(self.file), **more}
 
     def counts(self) -> tuple[int, int]:
         """Returns the two numbers that the library has written in the last run. The comment at the head of its source
@@ -142,7 +142,7 @@ class Story:
 
 
 def built_in(room: Path) -> Path:
-    """Writes the built-in lab, and returns its path."""
+    """Writes the built-in lab into the folder `room`, without the comment at its head, and returns its path."""
     text = (TOP / "examples/built-in.toml").read_text(encoding="utf-8")
     lab = room / "built-in.toml"
     lab.write_text(text.partition("\n\n")[2], encoding="utf-8")
@@ -242,6 +242,7 @@ def play(story: Story, port: int, in_turn: bool = False) -> tuple[list[bytes], f
     numbers = sorted({number for number, _ in asked})
     clients = {number: Client(port) for number in numbers}
     replies = [b""] * len(asked)
+    # Without `in_turn` there is a single turn, in which all connections send.
     for turn in numbers if in_turn else [b""]:
         for at, (number, line) in enumerate(asked):
             if turn in (b"", number):

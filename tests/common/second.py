@@ -38,15 +38,16 @@ def compare(what: str, found: Ended, wanted: Ended) -> None:
 
 
 def agreed(what: str, *words: str | Path) -> Ended:
-    """Runs the program with these arguments, and returns its result. Fails if the model's result differs. `what` names
-    the call."""
+    """Runs the program and the model with these arguments, and returns the result. Fails if the two results differ.
+    `what` names the call in the error."""
     found = run_program(*words)
     compare(what, found, ended([str(word) for word in words]))
     return found
 
 
 def agreed_script(what: str, lab: Path, script: Path, journal: Path) -> Ended:
-    """Runs a script, and returns its result. Fails if the model's result or journal differs. `what` names the call."""
+    """Runs a script by the program and by the model, and returns the result. Fails if their results or journals differ.
+    `what` names the call in the error."""
     found = run_program("script", lab, script, journal)
     second = journal.with_suffix(".second")
     second.unlink(missing_ok=True)

@@ -76,6 +76,7 @@ def declared_in(text: str) -> set[str]:
     """Returns the names that the text of a source declares: functions, types, clauses, definitions, and the arguments
     of `impl From`."""
     names = set(re.findall(r"\b(?:fn|struct|enum|trait|type|const|ensures|requires) (\w+)", text))
+    # A definition of `specs/` begins a line, after words such as `pub` or none.
     names |= set(re.findall(r"^(?:[a-z]+ )*([A-Za-z_]\w*)(?: |$)", text, re.MULTILINE))
     return names | {f"From<{name}>" for name in re.findall(r"impl.* From<(\w+)", text)}
 
@@ -120,7 +121,8 @@ def stands_for_another(text: str) -> bool:
 
 def is_missing_path(page: str, text: str, files: list[str], folders: set[str]) -> bool:
     """Returns whether no file and no folder of the repository has a path that ends like this text. On the page of a
-    crate, the crate's own folders count too."""
+    crate, a path that begins with a crate's folder, such as `src/`, has to be in this crate. Returns False for absolute
+    paths, paths with placeholders, and those in ELSEWHERE."""
     path = text.rstrip("/").removeprefix("./")
     if path.startswith("/") or stands_for_another(path) or path in ELSEWHERE:
         return False
@@ -132,7 +134,7 @@ def is_missing_path(page: str, text: str, files: list[str], folders: set[str]) -
 
 def is_missing_name(text: str, words: set[str], laws: set[str]) -> bool:
     """Returns whether the name `text` on a page has a word that isn't in `words`, those of all sources, or is that of a
-    law that isn't in `laws`."""
+    law that isn't in `laws`. Names in ELSEWHERE are never missing."""
     if text in ELSEWHERE:
         return False
     parts = re.findall(r"\w+", text)

@@ -82,8 +82,9 @@ def tested_in(crate: str, all_groups: list[Group]) -> str:
 
 
 def text_at(x: int, y: int, text: str, kind: str = "") -> str:
-    """Returns a line of text at a point as an SVG element of the class `kind`."""
-    return f'<text x="{x}" y="{y}"{f""" class="{kind}" """.rstrip() if kind else ""}>{escape(text)}</text>'
+    """Returns a line of text at a point as an SVG element of the class `kind`, or of no class if that is empty."""
+    of_kind = f' class="{kind}"' if kind else ""
+    return f'<text x="{x}" y="{y}"{of_kind}>{escape(text)}</text>'
 
 
 def band(group: Group, top: int, all_groups: list[Group]) -> tuple[list[str], int]:

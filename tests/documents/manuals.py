@@ -48,7 +48,7 @@ def head(name: str, what: str) -> Iterator[str]:
 
 
 def foot(name: str, *pages: str) -> Iterator[str]:
-    """Yields the last lines of the man page `name`, with the pages to see also."""
+    """Yields the last lines of a man page: the other man page `name` to see also, and the documents `pages`."""
     named = ", ".join(rf"\fI{plain(page)}\fP" for page in pages)
     yield from (".SH SEE ALSO", rf".BR {name} (1);", f"{named} of the release.")
 
@@ -75,7 +75,8 @@ def choices(every: argparse.ArgumentParser) -> dict[str, argparse.ArgumentParser
 
 
 def term(action: argparse.Action) -> str:
-    """Returns the form of an option or a positional argument, as the source of a man page has it."""
+    """Returns the form of an option or a positional argument, as the source of a man page has it. An option's value has
+    the name in `metavar`, or the choices, or else the option's own name."""
     value = str(action.metavar or (",".join(map(str, action.choices)) if action.choices else action.dest.upper()))
     if not action.option_strings:
         return form(value if action.metavar else action.dest.upper())
@@ -86,7 +87,8 @@ def term(action: argparse.Action) -> str:
 def word(name: str) -> Iterator[str]:
     """Yields the lines of the page class(1) about a subcommand: what it does, its arguments and options, and an
     example."""
-    yield from (f'.SS "class {plain(name)}"', plain(EACH[name][0][0].upper() + EACH[name][0][1:]) + ".")
+    what, _ = EACH[name]
+    yield from (f'.SS "class {plain(name)}"', plain(what[0].upper() + what[1:]) + ".")
     for action in choices(parser(name))[name]._actions:
         if ", ".join(action.option_strings) != OF_ITSELF and action.help != argparse.SUPPRESS:
             yield from (".TP", term(action), plain((action.help or "").replace("%%", "%")) or r"\&")

@@ -37,8 +37,8 @@ FENCE = re.compile(r"^```.*?^```$", re.MULTILINE | re.DOTALL)
 
 
 def blocks(text: str) -> Iterator[str]:
-    """Yields the parts of a page's text that are read by themselves, without headings: paragraphs, items, and the parts
-    of cells."""
+    """Yields the parts of a page's text that are read by themselves: paragraphs, items, and the parts of a table's cells
+    between semicolons. Code blocks and headings are left out."""
     text = FENCE.sub("\n\n", text)
     text = re.sub(r"^    .*$", "", text, flags=re.MULTILINE)
     for part in re.split(r"\n\s*\n|\n(?=\s*(?:[-*]|\d+\.) )|\n(?=[|#])", text):
@@ -104,7 +104,7 @@ def limits() -> dict[str, int]:
 
 
 def is_page(page: str) -> bool:
-    """Returns whether a file is a page, so that its sentences count."""
+    """Returns whether a file is a page, of which the sentences count."""
     return page.endswith(".md")
 
 

@@ -35,7 +35,7 @@ def world(links: list[tuple[int, int]], rows: list[list[str]] | None = None) -> 
     """Returns a network with these links. The registers are those of a table whose first column has p and m, or clean
     ones if there is no table."""
     nodes = sorted({end for link in links for end in link})
-    near = {node: {a + b - node for a, b in links if node in (a, b)} for node in nodes}
+    near = {node: {a + b - node for a, b in links if node in (a, b)} for node in nodes}  # `a + b - node` is the other end
     values = {row[0]: row[1:] for row in rows or []}
     p = [None if it == "null" else int(it) for it in values.get("p", ["null"] * len(nodes))]
     return World(near, dict(zip(nodes, p)), dict(zip(nodes, [it == "true" for it in values.get("m", [""] * len(nodes))])))

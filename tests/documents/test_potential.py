@@ -25,9 +25,8 @@ def rows(first: str) -> list[list[str]]:
 
 def own_part(world: World, i: int) -> int:
     """Returns the own part of node i in the potential (docs/SELF-STABILISATION.md), by the page's first table."""
-    married, _, down = (row[1:] for row in rows("Own part of i"))
-    unmarried = rows("Own part of i")[1][1:]
-    column = 0 if world.m[i] else 1
+    married, unmarried, down = (row[1:] for row in rows("Own part of i"))
+    column = 0 if world.m[i] else 1  # the table has a column for m true, and one for m false
     pointer = world.p[i]
     if world.married(i):
         return int(married[column])

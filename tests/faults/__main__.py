@@ -214,8 +214,8 @@ class Served:
         self.journal = room / "faulty-served.journal"
         replies, self.kept = story.plain(frozenset())
         server = self.server(library.variables({"FAIL": "write"}))
-        # The writes in their order: the server's first line, and then for each request the line in the journal, if
-        # there is one, and the reply.
+        # The writes in their order: the server's first line, of which the library counts the writes before a client comes,
+        # and then for each request the line in the journal, if there is one, and the reply.
         self.writes = ["first line"] * library.counts()[0]
         play(story, server.port)
         server.end()
@@ -328,14 +328,14 @@ def fail_all(name: str, use: Use, kinds: list[Kind], library: Preloaded) -> str:
             if fault:
                 fail(f"{name}, {kind} at call {nth}: {fault}")
             met += failed
-        if nth == 1:
+        if nth == 1:  # Even the first run had no such call.
             fail(f"{name}: no {kind}")
     return f"{name} {met}"
 
 
 def check_stopped(story: Story, room: Path) -> str:
     """Checks a server that a signal ends while a client is connected: it prints no last line, and its journal is
-    complete."""
+    complete. Returns a text about these checks."""
     # A job in a shell's background ignores SIGINT, and so would the processes that it starts.
     signal.signal(signal.SIGINT, signal.default_int_handler)
     journal = room / "stopped.journal"

@@ -288,6 +288,7 @@ def raced(room: Path) -> None:
                 ana, ben = (let_in(host.port, hello(name))[0] for name in ("ana", "ben"))
             at = int(ana.ask(look("ana"))[6:].split(b",", 1)[0])  # the number after `{"at":`
             three = [(ana, move(at, 1, "seduction")), (ben, move(at, 2, "seduction")), (tess, CLOSE)]
+            # In each turn another of the three is the first.
             for caller, line in three[turn % 3:] + three[:turn % 3]:
                 caller.send(line)
             told += [caller.line() for caller, _ in three]
@@ -309,16 +310,23 @@ def raced(room: Path) -> None:
 
 
 def byes_that_end_nothing(room: Path) -> None:
-    """A bye of a student, or one that isn't said at the desk, ends only its own connection."""
+    """Only a bye at the desk after the teacher's granted hello ends the class. Any other bye ends only its own connection:
+    one at the desk without a granted hello or after that of a student, and every one at the students' port. The class
+    also goes on if the teacher's connection ends without a bye."""
     lab, journal = lab_of(room, 4), room / "journal"
     with Host(lab, 0, 0, journal) as host:
         talk = Talk(lab, 4, room)
         student = talk.comes(host.port, hello("ana"))
         unknown = line_of(do="hello", key="chalk-", name="tess")
+        # The port at which each bye is said, and the lines before it.
         said: list[tuple[int, list[bytes]]] = [
-            (host.desk, []), (host.desk, [hello("ana")]), (host.desk, [unknown]),
-            (host.desk, [hello("ana"), hello("tess")]),
-            (host.port, []), (host.port, [hello("tess"), REPORT]), (host.port, [hello("ben")]),
+            (host.desk, []),  # nobody has greeted
+            (host.desk, [hello("ana")]),  # a student at the desk
+            (host.desk, [unknown]),  # the teacher's name with a wrong key
+            (host.desk, [hello("ana"), hello("tess")]),  # a student, whose second hello is denied
+            (host.port, []),  # nobody has greeted
+            (host.port, [hello("tess"), REPORT]),  # the teacher at the students' port
+            (host.port, [hello("ben")]),  # a student
         ]
         for port, lines in said:
             if lines:
@@ -390,6 +398,7 @@ def ended_while_asked(room: Path) -> None:
         half.send(b'{"do":')
         sends_until_full(deaf, look("cyd"))
         for _ in range(20):
+            # Each step is closed after the students have made twenty more looks and moves.
             for _ in range(20):
                 asked.acquire()
             teacher.ask(CLOSE)
@@ -414,6 +423,7 @@ def ended_while_asked(room: Path) -> None:
     events = len(journal.read_bytes().splitlines())
     told = audit(lab, journal, events)
     number = told.split(b"configuration ")[1].split(b",")[0]
+    # There are at least the twenty faults and one move.
     if ended != Ended(0, b"done: %d events, configuration %s\n" % (events, number), b"") or events < 21:
         fail(f"host: another end while students ask: {ended}, {events} events")
     if polls == 160:
@@ -530,6 +540,7 @@ def few_descriptors(room: Path) -> None:
             script = room / "clients.script"
             script.write_bytes(b"".join(b"1 " + line for name in NODES for line in (hello(name), look(name), BYE)))
             rules = [line[2:] for line in good(["script", str(lab), str(script)]).splitlines(keepends=True)]
+            # Ten clients of each name get the three replies to its lines, and then the end of the connection.
             wanted = [(*rules[at:at + 3], b"") for at in range(0, 9, 3)] * 10
             if sorted(served) != sorted(wanted):
                 fail(f"host: of thirty clients over {descriptors} files {len(served)} are served, or otherwise")

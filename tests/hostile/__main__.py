@@ -304,8 +304,8 @@ def wait_for_handles(server: Program, wanted: int, when: str) -> None:
 
 
 def read_late(lab: Path) -> None:
-    """Clients send more after a bye, or a line that is too long, and read late. All replies arrive, and then the
-    end."""
+    """Checks clients that send more after a bye, or a line that is too long, and read late. All replies arrive, and then
+    the end."""
     server = start_server(lab, 16)
     for tail, said in [(BYE + b"x" * 5000, BID), (b"x" * 20_000, b"")] * 8:
         with connect(server.port) as it, it.makefile("rb") as replies:

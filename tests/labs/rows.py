@@ -42,7 +42,7 @@ class Row:
 
 
 def built_in() -> str:
-    """Returns the text of the built-in lab."""
+    """Returns the text of the built-in lab, without the comment at its head."""
     return (TOP / "examples/built-in.toml").read_text(encoding="utf-8").partition("\n\n")[2]
 
 

@@ -45,7 +45,7 @@ class Shown:
     def size(self) -> list[str]:
         """Returns the counts of nodes, links and students in the output of `check`, as texts."""
         said = run(["check", str(self.lab)], b"", {})
-        words = said.out.decode().split()
+        words = said.out.decode().split()  # `ok: 3 nodes, 2 links, 3 students`
         if said.status != 0 or len(words) != 7:
             self.fail(f"no size: {said}")
         return words[1::2]
@@ -60,6 +60,7 @@ class Shown:
         bad = b"script: line %d: bad line\n" % (len(lines) + 2)
         if (found.status, found.error) != (2, bad):
             self.fail(f"another number of sessions than {sessions}: {found.error!r}")
+        # The last reply is that on the last connection, to a line that isn't one of `looks`.
         return [json.loads(line.split(b" ", 1)[1]) for line in found.out.splitlines()[:-1]]
 
     def all_replies(self, students: int, nodes: list[int], sessions: int) -> list[dict[str, Any]]:

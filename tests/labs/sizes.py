@@ -98,6 +98,7 @@ def greatest() -> Row:
     owners = {node: sorted([node % 256, (node + 1) % 256]) for node in ids}
     shows = f"100 {SESSIONS} 256 32640 256"
     document = f"events = 100\n{HEAD}links = [{links}]\n" + students(256)
+    # The file names the owners of a node in the wrong order, and they are shown in the order of the students.
     for at, (node, (a, b)) in enumerate(owners.items()):
         document += f'[[node]]\nid = {node}\nowners = ["{people[b][0]}", "{people[a][0]}"]\n'
         shows += f"; {node} false {people[a][0]}{people[b][0]} {'-' * at}.{'-' * (255 - at)}"

@@ -82,9 +82,9 @@ class Play:
         # Whether the class is over, the students' port isn't served, or a connection ended after its hello was granted.
         self.is_over = self.is_desk_alone = self.is_lost = False
 
-    def answered(self, who: bytes, caller: Caller, line: bytes) -> Optional[bytes]:
-        """Returns the reply to a line on the connection of the person `who`. Returns no bytes if the connection is
-        closed, and None if the students' port isn't served."""
+    def reply_to(self, caller: Caller, line: bytes) -> Optional[bytes]:
+        """Sends a line on a connection, and returns its reply. Returns no bytes if the connection is closed, and None if
+        the students' port isn't served."""
         caller.send(line)
         # A student's hello is the first line at the students' port. If it is answered, the port is served.
         if line == hello("ana") and not select.select([caller.socket], [], [], PATIENCE)[0]:
@@ -103,7 +103,7 @@ class Play:
             except ConnectionError:
                 self.is_over = True
                 return ""
-            reply = self.answered(who, self.callers[who], line)
+            reply = self.reply_to(self.callers[who], line)
             if reply is None:
                 self.is_desk_alone = True
             elif reply in (b"", BUSY):
@@ -156,6 +156,7 @@ class Class:
             shutil.copytree(self.begun.folder, room)
         journal, record = room / "journal", room / "record"
         before = journal.read_bytes() if journal.exists() else b""
+        # Runs are side by side, so each has its own file for the library's counts.
         library = copy.copy(library)
         library.file = room / "counts"
         variables = library.variables({"REFUSE": str(nth)})
@@ -248,6 +249,7 @@ def begun_by(first: Class, room: Path, library: Preloaded) -> Begun:
     script = [who + line for who, line in first.asked]
     for name in ("script", "plain", "counts"):
         (room / name).unlink()
+    # In a script a connection ends only by a bye. The connections of the resumed class have the same numbers.
     return Begun(room, (*script, TEACHER + BYE, STUDENT + BYE))
 
 

@@ -369,9 +369,9 @@ def guesses(host: Host, quiet: float) -> tuple[int, int, float]:
 
 
 def guessed_keys(room: Path) -> None:
-    """Clients that guess keys get at least a hundred denials in total, but at most a hundred a second. The number of
-    connections without a denial is at most a quarter of the number of denials. A line on the host's standard error
-    reports the guesses."""
+    """Clients that guess keys get at least a hundred denials in total, but at most a hundred a second. Honest clients are
+    answered in time meanwhile (`guesses`). The number of connections without a denial is at most a quarter of the number
+    of denials. A line on the host's standard error reports the guesses."""
     with Host(lab_of(room, 16), 0, 0) as host:
         denied, others, seconds = guesses(host, longest_alone(host))
         if denied / seconds > 100 or denied < 100:
@@ -408,6 +408,8 @@ def queues(host: Host, caller: Caller) -> str:
     Returns an empty text if the host has no such end."""
     ends = f":{host.port:04X}", f":{caller.socket.getsockname()[1]:04X}"
     for line in Path("/proc/net/tcp").read_text(encoding="ascii").splitlines()[1:]:
+        # The second and the third word of a row are the two ends' addresses, each with its port at the end. The fifth one
+        # has both numbers of bytes.
         words = line.split()
         if (words[1][-5:], words[2][-5:]) == ends:
             return words[4]
@@ -494,6 +496,7 @@ def journals(room: Path) -> None:
     for stream in ("", "2"):
         journal.unlink(missing_ok=True)
         words: list[str | Path] = ["bash", "-c", f'exec "$@" {stream}> {journal}', "bash", HOST, "host", lab, "0", "0", journal]
+        # If standard error is the journal, the error line is in the journal's file.
         wanted = b"" if stream else b"journal fault\n"
         if (said := run_to_end(words)) != Ended(4, b"", wanted) or journal.read_bytes() not in (b"", b"journal fault\n"):
             fail(f"outsiders: a host whose journal is its own output ends with {said}")
@@ -553,6 +556,7 @@ def limited(kilobytes: int, limit: str = "-s") -> list[str]:
 def deepest(port: int, count: int) -> None:
     """Sends lines whose values are nested as deep as allowed on `count` connections at once, and checks that they are
     answered. Then sends deeper ones, and checks that they are refused."""
+    # The request is an object itself, so 126 levels in it are as deep as allowed.
     arrays, objects = b"[" * 126 + b"]" * 126, b'{"a":' * 126 + b"0" + b"}" * 126
     deep = [look("ana").replace(b"}", b',"x":%s}' % nest) for nest in (arrays, objects, arrays.replace(b"[]", b"[[]]"), b"[" * 4000)]
     callers = [Caller(port) for _ in range(count)]

@@ -164,7 +164,7 @@ class Comings:
         caller.close()
 
     def request(self, what: str) -> socket.socket:
-        """Returns a connection to the page's server that has sent a request for the path `what` below the page."""
+        """Connects to the page's server, and sends a request for the path `what` below the page. Returns the connection."""
         it = socket.create_connection(("127.0.0.1", self.page), LIMIT)
         it.sendall(f"GET {self.path}{what} HTTP/1.1\r\nHost: 127.0.0.1:{self.page}\r\nConnection: close\r\n\r\n".encode())
         return it

@@ -42,6 +42,7 @@ def the_last_seat(room: Path) -> None:
             newcomer, reply = let_in(host.port, hello("tess"))
             if b'"ok":"hello"' not in reply:
                 fail(f"outsiders: who comes to the last seat reads {reply!r}")
+            # The stranger may read a reply to its line, and then that there is no seat. Its time isn't over, so it isn't `late`.
             said = [*iter(stranger.line, b"")]
             if said[:-1] not in ([], [MALFORMED], [UNKNOWN]) or said[-1:] == [LATE]:
                 fail(f"outsiders: after {line!r} a stranger on the last seat reads {said}")

@@ -95,7 +95,6 @@ def no_busy_loop(room: Path) -> None:
     with Host(lab_of(room, 2), 0, 0, variables=library.variables({"FAIL": "accept"})) as host:
         teacher, ana = let_in(host.desk, hello("tess"))[0], let_in(host.port, hello("ana"))[0]
         # From here on the host can open no further file.
-        # From here on the host can open no further file.
         resource.prlimit(host.process.pid, resource.RLIMIT_NOFILE, (host.files(), 4096))
         kept = [connect(host.port) for _ in range(3)]
         waits_between(host, library, PAUSE, "with no descriptor left")

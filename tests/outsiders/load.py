@@ -61,7 +61,7 @@ class Load:
         begun = time.monotonic()
         due = begun
         while (now := time.monotonic()) < begun + seconds:
-            due = max(due, now - BURST / rate)
+            due = max(due, now - BURST / rate)  # if the machine is too slow, overdue connections are given up, except for BURST
             while due <= now:
                 self.come(now)
                 due += 1 / rate
@@ -134,7 +134,8 @@ class Outsiders:
 
 
 def main() -> None:
-    """Runs the load that the arguments describe."""
+    """Runs the load that the arguments describe, with as many open files as the system allows. Prints a line when it
+    begins, and the counts at its end."""
     kind, rate, seconds, *ports = sys.argv[1:]
     most = resource.getrlimit(resource.RLIMIT_NOFILE)[1]
     resource.setrlimit(resource.RLIMIT_NOFILE, (most, most))

@@ -68,6 +68,7 @@ def over_for_all(room: Path) -> None:
         told = [(caller.line(), caller.line()) for caller in callers[:2]]  # By then the other connections wait for their turns.
         end_well(host, teacher)
         said = [(caller.line(), caller.line()) for caller in callers[2:]]
+        # Before the class's end one or two more may have got their denials.
         if told != [(UNKNOWN, BUSY)] * 2 or said[-4:] != [(OVER, b"")] * 4:
             fail(f"outsiders: of those who guess before the class's end the host prints {told}, and at its end {said}")
     with Host(lab_of(room, 3), 0, 0, variables=variables) as host:

@@ -69,7 +69,7 @@ def ends(room: Path) -> int:
     """Checks scripts with wrong lines, labs that can't be read, a full disk, and the last event. Returns the
     number of calls."""
     lab = str(built_in(room))
-    for script, out, line in ROWS:
+    for script, out, line in ROWS:  # `line` is the number of the script's wrong line, or None
         wanted = Ended(2 if line else 0, out.encode(), f"script: line {line}: bad line\n".encode() if line else b"")
         found = answer_script(["answer", lab], script.encode())
         if found != wanted:

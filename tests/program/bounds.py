@@ -140,7 +140,9 @@ def play_and_count(file: Path, steps: list[Step]) -> Counted:
 
 def moves(room: Path, size: int) -> int:
     """Checks a run on the network in which two nodes are linked if their sum is more than `size`, the number of nodes.
-    The run has as many moves as the bound, or one less if the size is odd. Returns the number of moves."""
+    At the beginning each m is true, but no two nodes point at each other. So each node first applies Update and
+    Abandonment, one node after another, and then come the steps of `phases`. The run has as many moves as the bound, or
+    one less if the size is odd. Returns the number of moves."""
     half = size // 2
     pointers = {node: size + 1 - node for node in range(1, half + 1)}
     pointers |= {node: node + 1 for node in range(half + 1, size)} | {size: 2}
@@ -155,8 +157,8 @@ def moves(room: Path, size: int) -> int:
 
 def rounds(room: Path, size: int) -> int:
     """Checks a run on the network in which a node of the lower half and one of the upper half are linked if their sum
-    is more than `size`, the number of nodes. In each step all privileged nodes move. The run has as many rounds as the
-    bound. Returns their number."""
+    is more than `size`, the number of nodes. First all nodes apply Update, and then come the steps of `phases`. In each
+    step all privileged nodes move. The run has as many rounds as the bound. Returns their number."""
     low = range(1, (size + 1) // 2 + 1)
     links = [(node, high) for node in low for high in range(low.stop, size + 1) if node + high > size]
     nodes: list[tuple[int, int | None]] = [(node, None) for node in range(1, size + 1)]

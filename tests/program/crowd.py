@@ -166,6 +166,7 @@ def run_crowd(room: Path, seed: int) -> int:
         if fault or player.name == "tess" and replay.world.place != len(replay.events):
             fail(f"crowd {seed}: {player.name} is answered what no beginning of the list gives from there on: {fault}")
     told = sum(b'"place":' in reply for player in players for _, reply in player.heard)
+    # The last replay is that of tess, at the end of the journal.
     events, number = len(replay.events), replay.world.number
     if told != events or number == 0 or ended != Ended(0, b"done: %d events, configuration %d\n" % (told, number), b""):
         fail(f"crowd {seed}: {told} events were reported of {events}, and it ended so: {ended}")

@@ -51,7 +51,7 @@ def grid(rng: Random, nodes: list[int]) -> list[Link]:
 
 
 def drawn_links(rng: Random, nodes: list[int]) -> list[Link]:
-    """Returns random links, with a random probability. Large networks have at most four links per node."""
+    """Returns a random number of random links, at most four per node."""
     links = complete(rng, nodes)
     count = rng.randint(0, min(len(links), 4 * len(nodes)))
     return rng.sample(links, count)

@@ -68,7 +68,8 @@ class Meshing:
         return {"do": "fault", "node": start, "p": p, "m": self.rng.random() < 0.5}
 
     def drawn(self) -> Asked:
-        """Returns the next request: mostly a move, and sometimes a close of all chosen moves."""
+        """Returns the next request, which the model grants: mostly a move, and sometimes another event. If the drawn one
+        isn't possible now, returns a fault, which always is."""
         world, start = self.model.world, self.rng.choice(self.model.world.nodes())
         kind = self.rng.randrange(16)
         asked: Optional[Asked] = None

@@ -94,7 +94,7 @@ def refused_before(count: int) -> str:
 def is_shaped(line: bytes) -> bool:
     """Returns whether a line has the form of an event, whatever its names are."""
     found = LINE.fullmatch(line.decode("latin-1"))
-    return found is not None and max(int(found[1]), int(found[2])) <= GREATEST
+    return found is not None and max(int(found["place"]), int(found["number"])) <= GREATEST
 
 
 def event_of(lab: Lab, line: bytes) -> str:

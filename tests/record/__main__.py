@@ -202,6 +202,7 @@ def halted(lab: Lab, run: Recording) -> list[tuple[str, dict[int, bytes], str]]:
     more. So events that follow it make a record impossible, unless a mark `!` is between. `run` is the short run. A row
     has a name, the text of each seat, and the verdict: the output, or the error without `verify: `."""
     lines = run.texts[1].splitlines(keepends=True)
+    # The teacher's hello, the hello with the first fault, the second fault, and the session's end.
     hello, first, rest, end = (b"".join(it) for it in (lines[:2], lines[:4], lines[4:-1], lines[-1:]))
     halt = b'1 1 > {"do":"fault","node":1,"p":2,"m":false}\n1 1 < {"refuse":"journal"}\n'
     again = halt.replace(b"1 1 ", b"1 2 ")
@@ -392,6 +393,7 @@ def by_pieces(files: Files, lab: Lab) -> None:
     other = entries[middle].replace(b"malformed", b"full")
     changed = {**long, 1: run.texts[1] + b"".join([*entries[:middle], other, *entries[middle + 1 :]])}
     told = f"ok: {run.sessions + 1} sessions, {run.lines + len(entries)} lines, 2 events\n{whole_line(lab)}"
+    # Each of the 4,000 entries has two lines.
     files.wants("in pieces", run.journal, {**long, 1: long[1][:-1]}, f"verify: seat 1, line {last + 8001}: torn")
     files.wants("changed in a piece", run.journal, changed, f"verify: seat 1, line {last + 2 * middle + 1}: not the reply of the rules at place 2")
     files.write(run.journal, run.texts)

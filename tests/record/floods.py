@@ -50,7 +50,7 @@ def sessions_in(record: Path) -> list[Session]:
     for seat in range(1, SEATS + 1):
         session = Session([], [])
         for line in (record / f"{seat}.record").read_bytes().splitlines(keepends=True):
-            mark = line.split(b" ")[2]
+            mark = line.split(b" ")[2]  # the third word, which is `>` or `<` if the line isn't a mark
             (session.marks if mark in MARKS else session.said).append(mark if mark in MARKS else line)
             session.missed += int(line.split(b" ")[3]) if mark == b"+" else 0
             if mark == b".\n":
@@ -158,6 +158,7 @@ def flooded(room: Path) -> None:
     unknown = [session for session in found if session.said and b'"ok":"hello"' not in session.said[1]]
     cut = [session for session in found if session.marks == [b"-\n", b"+", b".\n"]]
     large = [session for session in cut if session.is_of("ana") and session.size() > BUDGET // 2]
+    # The flood is cut after many lines, and at least one session is cut before its first line.
     if len(large) != 1 or all(session.said for session in cut) or any(b"!\n" in session.marks for session in found):
         fail(f"record: beside a flood these are cut: {[(len(session.said), session.marks) for session in cut]}")
     if sum(session.missed for session in found if session in large) < LINES - BUDGET // ENTRY:
@@ -199,6 +200,7 @@ def outsiders_first(room: Path) -> None:
     recorded = sum(len(session.said) // 2 for session in unknown)
     wants_budget("outsiders", unknown)
     (own,) = [session for session in found if session.is_of("ana")] or [Session([], [])]
+    # The hello, the denied moves, the granted move and the bye, each with its reply.
     if len(own.said) != 2 * (1 + DENIED + 1 + 1) or b'"place":1' not in own.said[-3] or own.marks[-2:] != [b"+", b".\n"]:
         fail(f"record: after outsiders a student's session has {len(own.said)} lines, and {own.marks}")
     if sum(session.missed for session in found) != asked + 1 - recorded:

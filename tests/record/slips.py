@@ -109,6 +109,7 @@ def of_other_owner(drawn: Drawn, it: Told) -> Iterator[Hurt]:
     """Yields records in which the hello before the entry `it` is that of another owner of a node. The entry must be a
     move of this node, right after the hello. The rules grant it to each owner, but the journal names another one."""
     before = drawn.before(it)[-2:]
+    # Whether only one entry of the session is before this one. If the entry is a granted move, that one is the hello.
     is_first = len(before) == 1 or len(before) == 2 and before[0].entry.mark == b"."
     if not is_first or it.found is None or it.found.event is None or it.found.event.do != "move":
         return
@@ -142,6 +143,7 @@ def of_other_event(drawn: Drawn, it: Told) -> Iterator[Hurt]:
 def earlier(drawn: Drawn, it: Told) -> Iterator[Hurt]:
     """Yields the record in which the entry `it` has a number of events that is less by one than in the entry before.
     The entry is a malformed line or a session's end, and comes after a denial or a session's end."""
+    # Whether the entry is possible after any number of events.
     is_same = it.entry.mark == b"." or it.entry.reply == MALFORMED
     last = drawn.before(it)[-1:]
     if is_same and it.entry.seen and last and last[0].entry.seen == it.entry.seen and (last[0].entry.mark == b"." or is_denied(last[0])):

@@ -66,9 +66,9 @@ def check_refused(lab: Path, journal: Path, wanted: Ended, why: str, before: Seq
 
 
 def goes_on(lab: Path, journal: Path, line: bytes, error: bytes, why: str) -> None:
-    """Resumes a class from its journal, and ends it at once. Checks that the host prints the line `line` for `read_resumed`
-    and `error` on standard error, and that its last line has the same place and configuration as `line`. `why` names
-    the situation, for the error."""
+    """Resumes a class from its journal, and ends it at once. Checks that the host's second line is `line`, that it prints
+    `error` on standard error, and that its last line has the same place and configuration as `line`. `why` names the
+    situation, for the error."""
     with Host(lab, 0, 0, journal, word="resume") as host:
         said = read_resumed(host) if host.listens else b""
         ended = host.dismiss(let_in(host.desk, hello("tess"))[0]) if host.listens else host.end()
@@ -319,6 +319,7 @@ def other_labs(room: Path) -> None:
         ('owner = "cyd"', 'owner = "ben"'), ('owner = "cyd"', 'owners = ["cyd", "ben"]'),
     ]:
         other = room / "other.toml"
+        # If node 3 gets another identifier, its link has to name that.
         other.write_text(text.replace(old, new).replace("[2, 3]", "[2, 4]" if new == "id = 4" else "[2, 3]"), encoding="utf-8")
         check_refused(other, journal, OTHER, f"a lab with {new}")
     for old, new in [("c-key", "another-key"), ("sessions = 4", "sessions = 7"), ("events = 1000", "events = 1"), ("\n", "\n# a comment\n")]:

@@ -1,5 +1,6 @@
 """A journal's file is removed, moved, replaced or changed while its class is running. The host notices that within a
-second or two, and grants nothing more. Each way to change the file is a function of the journal's path."""
+second or two, and grants nothing more. Each way to change the file is a function of the journal's path. Its name says in
+errors what has happened to the journal, for example `removed`."""
 import os
 import select
 import shutil

@@ -101,7 +101,8 @@ class Files:
             (self.folder / f"{seat}.record").write_bytes(text)
 
     def run_tally(self, what: str) -> Ended:
-        """Returns the result of `tally` for these files. Fails if the model's result differs."""
+        """Runs `tally` for these files, and returns its result. Fails if the model's result differs. `what` names the run
+        in the error."""
         return agreed(what, "tally", self.lab, self.journal, self.folder)
 
     def bare(self) -> str:

@@ -37,7 +37,7 @@ def say(line: str) -> None:
 
 def progress_of(crates: Uses, number: int) -> Progress:
     """Returns the progress of a build of these crates on `number` processors, with no crate proved and no proof
-    begun."""
+    begun. A share of each proof's time is divided by the number of its processes."""
     share = ALONE + (1 - ALONE) / jobs_of(number)
     return Progress(crates, {crate: seconds * share for crate, seconds in expected(crates).items()}, at_once_of(number))
 

@@ -62,7 +62,8 @@ def homes() -> list[Path]:
 
 
 def sweep() -> None:
-    """Removes the folders that earlier builds left because they were killed."""
+    """Removes the folders that earlier builds left because they were killed. The name of such a folder has the number of
+    the process of its build."""
     for folder in [folder for home in homes() for folder in home.glob(f"{PREFIX}*")]:
         of = re.match(rf"{PREFIX}(\d+)-", folder.name)
         if of and not Path(f"/proc/{of[1]}").exists():

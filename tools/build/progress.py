@@ -15,6 +15,7 @@ def chains(crates: Uses, seconds: dict[str, float]) -> dict[str, float]:
     """Returns for each crate the length, in seconds, of the longest chain of proofs that begins with the crate's proof.
     `seconds` has the expected time of each proof."""
     longest = {crate: 0.0 for crate in crates}
+    # Each crate comes after those below it. So in reverse order, the chains of all crates above a crate are known.
     for crate in reversed([*crates]):
         longest[crate] += seconds[crate]
         for below in crates[crate]:
@@ -64,7 +65,7 @@ class Progress:
 
     def left(self, now: float) -> float:
         """Returns the seconds from `now` on until all crates are proved, as estimated from the pace of this machine so
-        far."""
+        far. Plays the rest of the build: whenever a proof ends, the next ones begin."""
         pace = self.took / self.planned
         ends = {crate: max(self.seconds[crate] * pace - (now - begun), OVERRUN * (now - begun)) for crate, begun in self.begun.items()}
         proved, at = {*self.proved}, 0.0

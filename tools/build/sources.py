@@ -82,6 +82,7 @@ def is_built(name: str, sources: str) -> bool:
         return False
     record = record_of(name)
     written = record.read_text(encoding="ascii").splitlines() if record.exists() else []
+    # The second line of the record says of which program it is. If that is another one, only the times of files count.
     if written[1:] == [sum_of_program(name)]:
         return written[0] == sources
     if is_newest(name):

@@ -22,12 +22,14 @@ def guarded(work: Callable[[Path], int]) -> int:
     guard is killed, the child gets SIGTERM."""
     adopt_orphans()
     room = Path(tempfile.mkdtemp(prefix="check-"))
+    # Signals wait until the child is there and gets them from `forward_signals`.
     signal.pthread_sigmask(signal.SIG_BLOCK, ALL)
     guard, child = os.getpid(), os.fork()
     if child == 0:
         work_below(guard, room, work)
     forward_signals(child)
     _, ended = os.waitpid(child, 0)
+    # From here on this process clears up, and no signal may stop it.
     for number in ALL:
         signal.signal(number, signal.SIG_IGN)
     end_all([], PATIENCE)

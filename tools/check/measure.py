@@ -106,8 +106,9 @@ def check_above(pid: int, found: dict[int, Process], parts: dict[int, str]) -> t
 
 
 def figures(checks: Checks, parts: dict[str, float]) -> str:
-    """Returns the text of two tables, of crates and of parts, with their processor minutes. `checks` has those of the
-    crates, and `parts` those of each part."""
+    """Returns a text about processor minutes: a table of crates and kinds of checks, the most expensive checks and the
+    memory, a line about the scripts, and a line with the sums. If no crate was checked, the table and the lines about
+    checks are left out. `checks` has the times of the checks, and `parts` that of each part."""
     sums = checks.minutes()
     crates = sorted({crate for crate, _ in sums})
     of_kind = {kind: sum(it for (_, its), it in sums.items() if its == kind) for kind in KINDS}

@@ -34,6 +34,8 @@ def process(pid: int) -> Process:
     with open(f"/proc/{pid}/stat", encoding="utf-8", errors="replace") as it:
         text = it.read()
     name = text[text.index("(") + 1 : text.rindex(")")]
+    # The fields after the name, as proc(5) lists them from the third one on: first the state and the parent. The fields
+    # 11 to 14 here are the processor times of the process and its ended children, 19 is the start, and 21 the pages held.
     fields = text[text.rindex(")") + 2 :].split()
     used = sum(int(field) for field in fields[11:15]) / TICKS
     return Process(name, int(fields[1]), fields[0], fields[19], used, int(fields[21]) * PAGE)

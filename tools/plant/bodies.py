@@ -31,7 +31,7 @@ def module_of(file: str) -> str:
 
 def type_of(what: str) -> str:
     """Returns the prover's name of the `impl` with the header `what`, which comes without the word `impl`. This name is
-    that of the type, followed by that of the trait if there is one."""
+    that of the type, followed by that of the trait if there is one: `LinesRead` for `io::Read for &mut Lines<T>`."""
     while GENERICS.search(what):
         what = GENERICS.sub("", what)
     first, _, second = what.partition(" for ")
@@ -44,6 +44,8 @@ def header_end(lines: list[str], start: int, indent: str) -> int | None:
     the line `start`, after the spaces in `indent`. Returns None if the function has no body."""
     if lines[start].endswith("{"):
         return start
+    # The next line that isn't indented further is the one with the brace, or shows that there is no body. But a line `)`
+    # without a brace only ends the arguments, and the contract follows.
     for number in range(start + 1, len(lines)):
         line = lines[number]
         if line.strip() and not line.startswith(indent + " "):

@@ -149,10 +149,12 @@ def ask_once(tree: Tree, crate: str, drawn: list[list[Plant]], kept: str, runnin
         if not (tried := todo.pop()):
             continue
         told = ask_prover(tree, crate, tried, kept, running)
+        # The check didn't finish, so one of these plants hinders the others.
         if told.ending is None and len(tried) > 1:
             todo += [tried[: len(tried) // 2], tried[len(tried) // 2 :]]
             continue
-        # These plants are asked about again, because their functions call functions that other plants change.
+        # These plants are asked about again, because their functions call functions that other plants change. If that is
+        # so of all, another check would say the same.
         resting = [plant for plant in tried if plant.function in told.resting and verdict(plant.function, told) == UNDECIDED]
         again = resting if len(resting) < len(tried) else []
         todo.append(again)

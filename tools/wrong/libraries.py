@@ -26,7 +26,7 @@ class Tree:
         return self.top / "crates" / crate
 
     def has_edits(self, crate: str) -> bool:
-        """Returns whether a crate has wrong bodies."""
+        """Returns whether a crate has wrong bodies: edits of its functions that the prover has to refuse."""
         return (self.folder(crate) / "wrong").is_dir()
 
     def library(self, crate: str) -> Path:

@@ -9,7 +9,7 @@ LINE = re.compile(r"fn (\S+): (.*)")
 OPEN = re.compile(r"`search` did not prove ((?:`[^`]+`(?:, )?)+)")
 RESTS = re.compile(r"it (?:calls|passes) [^;]*which (?:is|are) not proved")
 ERROR = re.compile(r"\S+?(?::\d+:\d+)?: error\b.*|error\b.*")
-GOAL = re.compile(r"(?:\./)?proofs/(\S+)/(?:Answers|Invariants|Proof)\.antt:\d+:\d+: error: `([^`]+)`: (.*)")
+GOAL = re.compile(r"(?:\./)?proofs/(?P<folder>\S+)/(?:Answers|Invariants|Proof)\.antt:\d+:\d+: error: `(?P<goal>[^`]+)`: (?P<why>.*)")
 CYCLE = re.compile(r"\+\w+$")
 LOST = re.compile(r"has no field|is not in scope|has no `|was not admitted")
 # The line about proofs that weren't checked because they cite an answer with an error.
@@ -58,9 +58,10 @@ class Told:
         found = GOAL.fullmatch(line)
         if RESTS_ON_ANSWER.search(line):
             return
-        if found and not LOST.search(found[3]):
-            # The goals of functions that call each other are listed together, and each begins with its function's name.
-            self.add_goal(CYCLE.sub(found[2].partition("-")[0], found[1]).replace("/", "::"), found[2])
+        if found and not LOST.search(found["why"]):
+            # The goals of functions that call each other are listed together, in a folder whose name begins with `+`. Each
+            # begins with its function's name.
+            self.add_goal(CYCLE.sub(found["goal"].partition("-")[0], found["folder"]).replace("/", "::"), found["goal"])
         else:
             self.errors.append(line)
 
