@@ -95,7 +95,7 @@ class InClone(unittest.TestCase):
 
     def environment(self, **more: str) -> dict[str, str]:
         """Returns an environment in which `rt` is the stand-in, proofs come one after another, and no program is
-        named."""
+        named. The variables in `more` are added, or replace others."""
         kept = {name: it for name, it in os.environ.items() if name not in ("MML_PROGRAM", "MML_HOST", "RT_JOBS")}
         return {**kept, "PATH": f"{self.bin}:{os.environ['PATH']}", "TMPDIR": str(self.temporary),
                 "PYTHONDONTWRITEBYTECODE": "1", "RT_JOBS": "1", **more}

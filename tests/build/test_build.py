@@ -246,7 +246,7 @@ class Builds(InClone):
         self.set("waits", "right")
         going = self.start("./mml", "build")
         rt = self.pids()[0]  # Its parent is the process of the build, a child of `./mml`.
-        parent = Path(f"/proc/{rt}/stat").read_text(encoding="utf-8").rpartition(") ")[2].split()[1]
+        parent = Path(f"/proc/{rt}/stat").read_text(encoding="utf-8").rpartition(") ")[2].split()[1]  # the second field after the name
         os.kill(int(parent), signal.SIGKILL)
         self.wait_for_end(going)
         self.assertFalse(is_there(rt))

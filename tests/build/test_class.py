@@ -36,7 +36,7 @@ class SetsUp(InClone):
         return sorted(it.name for it in self.clone.glob("maths*"))
 
     def new(self, *words: str, **more: str) -> subprocess.CompletedProcess[str]:
-        """Runs `./class new` with these arguments to its end. Returns its result."""
+        """Runs `./class new` with these arguments, and `more` in its environment, to its end. Returns its result."""
         return self.call("./class", "new", *WORDS, *words, **more)
 
     def test_a_command_builds_the_program_and_then_does_its_work(self) -> None:

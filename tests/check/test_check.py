@@ -202,8 +202,8 @@ class Ends(InTree):
     """A check that is ended, and two at once."""
 
     def check_ended_by(self, number: signal.Signals, whole_group: bool) -> None:
-        """Sends this signal to the process of a running check, or to its whole group. Checks the status and the last
-        lines of the check, and that nothing is left of it."""
+        """Sends this signal to the process of a running check, or to its group if `whole_group` is set. Checks the status
+        and the last lines of the check, and that nothing is left of it."""
         for name in ("begun", "pids"):
             (self.room / name).unlink(missing_ok=True)
         self.stand_in(part("well", WELL), part("on", GOES_ON))

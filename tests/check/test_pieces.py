@@ -74,6 +74,7 @@ class Sharing(unittest.TestCase):
     """How parts share processors."""
 
     def test_the_expected_minutes_follow_from_work_width_and_processors(self) -> None:
+        # Each part has its processor minutes, and the least minutes of the clock. The last one can use all processors.
         narrow, long, wide = Part("n", (), 2, 1), Part("l", (), 1, 5), Part("w", (), 8, 1, ALL)
         self.assertEqual(minutes([narrow], 4), 2)
         self.assertEqual(minutes([narrow, narrow, narrow, narrow], 2), 4)

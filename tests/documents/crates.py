@@ -106,7 +106,8 @@ def band(group: Group, top: int, all_groups: list[Group]) -> tuple[list[str], in
 
 def way(above: int, below: int, is_next: bool) -> str:
     """Returns an SVG path with an arrow from the foot of a band at the height `above` to the head of another one at the
-    height `below`. The arrow goes straight down if that is the next one, and otherwise along the margin."""
+    height `below`. If `is_next` is set, that is the next band, and the arrow goes straight down. Otherwise it goes along
+    the margin."""
     middle, head = MARGIN + GAP + WIDTH // 2, below + 20
     if is_next:
         return f'<path class="way" d="M{middle} {above} V{below - 2} m-5 -6 l5 6 l5 -6"/>'

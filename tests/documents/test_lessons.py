@@ -32,8 +32,8 @@ def tables(path: str) -> list[list[list[str]]]:
 
 
 def world(links: list[tuple[int, int]], rows: list[list[str]] | None = None) -> World:
-    """Returns a network with these links. The registers are those of a table whose first column has p and m, or clean
-    ones if there is no table."""
+    """Returns a network with these links. `rows` is a table with the registers of the nodes: its first column has the
+    words `p` and `m`. Without a table each p is null and each m false."""
     nodes = sorted({end for link in links for end in link})
     near = {node: {a + b - node for a, b in links if node in (a, b)} for node in nodes}  # `a + b - node` is the other end
     values = {row[0]: row[1:] for row in rows or []}

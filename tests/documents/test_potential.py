@@ -74,10 +74,10 @@ class ByHand(unittest.TestCase):
         """Also checks that the numbers of moves are those in the output, and that the page's text names the falls and
         the number of all moves."""
         table = rows("Configuration")
-        sums = [int(row[8]) for row in table]
+        sums = [int(row[8]) for row in table]  # the column of the sum follows those of the five parts
         for row, total in zip(table, sums):
             self.assertEqual(sum(map(int, re.findall(r"\d+", " ".join(row[3:8])))), total, row)
-        moves = [int(row[9].partition(":")[0]) for row in table[:-1]]
+        moves = [int(row[9].partition(":")[0]) for row in table[:-1]]  # the last column, which is empty in the last row
         closes = [len(json.loads(line[2:])["moved"]) for line in SHOWN.read_text(encoding="ascii").splitlines() if '"ok":"close"' in line]
         self.assertEqual(moves, closes)
         self.assertTrue(all(before - after >= moved for before, after, moved in zip(sums, sums[1:], moves)))

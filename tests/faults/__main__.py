@@ -93,7 +93,8 @@ class Reads:
 
 
 def shown(words: list[str], then: str, reads: Reads) -> Use:
-    """Returns a use of the program that prints one line: `check`, or `audit`, which also reads the journal `then`."""
+    """Returns a use of the program that prints one line: `check`, or `audit`, which also reads a journal. `then` names the
+    file that is read last, and `reads` has the number of reads of the lab."""
     out = good(words)
 
     def use(kind: Kind, nth: int, variables: dict[str, str]) -> str:
@@ -146,7 +147,8 @@ def cut_off(story: Story, ended: Ended, journal: bytes, wanted: Ended) -> str:
 
 
 def scripted(story: Story, room: Path, reads: Reads) -> Use:
-    """Returns the use of the program that runs a script and writes its journal."""
+    """Returns the use of the program that runs a script and writes its journal. `reads` has the number of reads of the
+    lab."""
     script, journal = room / "faulty.script", room / "faulty.journal"
     script.write_bytes(story.script())
     words = ["script", str(story.lab), str(script), str(journal)]

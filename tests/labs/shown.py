@@ -65,7 +65,8 @@ class Shown:
 
     def all_replies(self, students: int, nodes: list[int], sessions: int) -> list[dict[str, Any]]:
         """Returns the replies to all lines of `looks` for the teacher and this number of students. Runs a script for
-        each PART of these people, since a script may have a megabyte at most."""
+        each PART of these people, since a script may have a megabyte at most. Checks the number of sessions, as `replies`
+        does."""
         people = [self.row.teacher, *self.row.students[:students]]
         replies = []
         for start in range(0, len(people), PART):

@@ -333,9 +333,9 @@ def nobody_behind(room: Path) -> None:
 
 def guesses(host: Host, quiet: float) -> tuple[int, int, float]:
     """Checks that honest clients at both ports are answered as soon as `waits_little` requires, with a limit of a tenth
-    of a second, while other clients guess keys. Five clients guess at the students' port, then fifteen, and then
-    fourteen also at the desk. Returns the number of denied guesses, the number of connections on which no guess was
-    denied, and the seconds."""
+    of a second, while other clients guess keys. `quiet` is the time of a hello without outsiders. Five clients guess at
+    the students' port, then fifteen, and then fourteen also at the desk. Returns the number of denied guesses, the number
+    of connections on which no guess was denied, and the seconds."""
     stop, denied, others = threading.Event(), [0] * 29, [0] * 29
 
     def guess(at: int) -> None:

@@ -130,7 +130,8 @@ class Honest:
         found.append(time.monotonic() - begun)
 
     def greets(self) -> bytes:
-        """Connects and says hello. Returns the reply. Closes the connection if the hello isn't granted."""
+        """Connects and says hello. Keeps the connection in `caller`, and closes it if the hello isn't granted. Returns the
+        reply."""
         self.caller = Caller(self.port)
         said = self.caller.ask(self.line)
         if b'"ok"' not in said:

@@ -55,7 +55,7 @@ def nine_in_ten(port: int, name: str, most: float, beside: str) -> None:
             fail(f"outsiders: beside {RATE} {beside} connections a second hellos of {name} take more than {most:.1f} seconds: {late}")
 
 
-def flooded(kind: str, room: Path) -> None:
+def check_flood(kind: str, room: Path) -> None:
     """Lets outsiders of a kind come to the students' port, and then to the desk. Checks that beside them nine of ten
     hellos with a key are granted in time. The limit depends on the time that a hello takes without outsiders."""
     with Host(lab_of(room, 16), 0, 0) as host:
@@ -70,22 +70,22 @@ def flooded(kind: str, room: Path) -> None:
 
 def idle_crowds(room: Path) -> None:
     """Connections that send nothing keep nobody out."""
-    flooded("idle", room)
+    check_flood("idle", room)
 
 
 def closing_crowds(room: Path) -> None:
     """Connections that close at once keep nobody out."""
-    flooded("closing", room)
+    check_flood("closing", room)
 
 
 def half_a_line(room: Path) -> None:
     """Connections that send half a line keep nobody out."""
-    flooded("half", room)
+    check_flood("half", room)
 
 
 def crowds_of_braces(room: Path) -> None:
     """Connections that send a line which is no request keep nobody out."""
-    flooded("braces", room)
+    check_flood("braces", room)
 
 
 def alive(callers: list[Caller], name: str) -> list[Caller]:

@@ -108,7 +108,7 @@ def many(room: Path) -> None:
     ends(server, b"done: 0 events, configuration 0\n")
 
 
-def won(one: Client, two: Client, line: bytes, granted: bytes, denied: bytes) -> int:
+def race(one: Client, two: Client, line: bytes, granted: bytes, denied: bytes) -> int:
     """Sends a line on two connections at the same time. Checks that one is granted and the other denied. Returns
     the index of the granted one."""
     for client in (one, two):
@@ -134,8 +134,8 @@ def races(room: Path) -> None:
     for turn in range(ROUNDS):
         number, place = 2 * turn, 3 * turn
         pairs = ((ana, ben), (tess, other)) if turn % 2 else ((ben, ana), (other, tess))
-        winner = won(*pairs[0], seduction(number), seduced(number, place + 1), denial_of("chosen"))
-        won(*pairs[1], CLOSE, closed(number + 1, place + 2, 1), denial_of("empty"))
+        winner = race(*pairs[0], seduction(number), seduced(number, place + 1), denial_of("chosen"))
+        race(*pairs[1], CLOSE, closed(number + 1, place + 2, 1), denial_of("empty"))
         if tess.ask(fault_at(1)) != line_of(at=number + 2, dropped=0, node=1, ok="fault", place=place + 3):
             fail("serving: another reply to a fault after a race")
         name = "ana" if pairs[0][winner] is ana else "ben"

@@ -52,8 +52,9 @@ class Numbers:
 
 
 def drawn(numbers: Numbers, world: World, index: int) -> tuple[str, Request]:
-    """Returns the next request in a world, and who sends it. Most requests aren't legal. The crate `mml_tests_model`
-    draws the same requests from the same numbers, so this function and the crate's must agree."""
+    """Returns the next request in a world, and who sends it. `index` requests were drawn before it. Most requests aren't
+    legal. The crate `mml_tests_model` draws the same requests from the same numbers, so this function and the crate's
+    must agree."""
     count = len(world.links)
     at = (index // 8 + numbers.below(8)) % count
     i, j = at + 1, (at + count - 2 + numbers.below(6)) % count + 1

@@ -469,7 +469,7 @@ def compare(room: Path, seed: int) -> Counter[str]:
     return told
 
 
-def drawn(room: Path) -> Counter[str]:
+def check_drawn(room: Path) -> Counter[str]:
     """Checks the random runs of all `SEEDS`, with files in the folder `room`. Fails if one of four usual reasons to
     refuse a changed record never occurs. Returns how often each verdict occurred."""
     told: Counter[str] = Counter()
@@ -482,7 +482,7 @@ def drawn(room: Path) -> Counter[str]:
     return told
 
 
-def slipped(room: Path) -> int:
+def check_slips(room: Path) -> int:
     """Checks records of the random runs of `SLIPS`, with one impossible entry in each. Fails if one isn't refused for
     its own reason, or if a kind of entry occurs fewer times than a quarter of the runs. Returns the number of
     records."""
@@ -512,7 +512,7 @@ def work(room: Path) -> str:
     other_files(files, lab)
     by_pieces(files, lab)
     bytes_hurt = at_each_byte(files, lab)
-    told, slips = drawn(room), slipped(room)
+    told, slips = check_drawn(room), check_slips(room)
     counts = f"{hand} records by hand, {bytes_hurt} with a byte hurt, {sum(told.values())} of drawn runs and {slips} of what can't be said"
     return f"{counts}, as the model has them; classes of a host: {run_classes(room)}"
 

@@ -21,7 +21,8 @@ def is_shown(reply: str) -> bool:
 def whole_line(lab: Lab, cut: bool = False, lacking: Collection[str] = (), begun: int = 0) -> str:
     """Returns the last two lines that `verify` prints about a record. The first names those whose lines are all
     recorded: the teacher first, and students in the lab's order. It leaves out the names in `lacking`, for whom
-    recording paused, and names nobody if `cut` is set. The second line says how many events came before the record."""
+    recording paused, and names nobody if `cut` is set. The second line has `begun`, the number of events before the
+    record."""
     line = " ".join(["whole", *(name for name in lab.keys if not cut and name not in lacking)])
     return f"{line}\nbegun after {begun} events"
 

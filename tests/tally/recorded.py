@@ -80,9 +80,8 @@ asked 2 ana 0 0 2 0 ben 0 0 1 0
 record 3 15 whole
 """
 REFUSED_FULL = "refused ana 0 0 2\nrefused ben 0 0 1\ndenials ana 0 0 1 1 0 0 0\ndenials ben 0 0 0 0 0 0 1\n"
-# Two lines of a record: a request, and a reply that denies it. The groups are the text up to the reply, the number of
-# events that the connection had seen, and the reply.
-DENIED_IN = re.compile(rb"(\d+ (\d+) > [^\n]*\n\d+ \d+ < )(\{\"(?:at\":\d+,\"|)clause\"[^\n]*)\n")
+# Two lines of a record: a request, and a reply that denies it. `seen` is the number of events that the connection had seen.
+DENIED_IN = re.compile(rb"(?P<front>\d+ (?P<seen>\d+) > [^\n]*\n\d+ \d+ < )(?P<reply>\{\"(?:at\":\d+,\"|)clause\"[^\n]*)\n")
 
 
 class Files:
@@ -195,9 +194,9 @@ def forgetful(rng: Random, text: bytes) -> bytes:
     def refused(found: re.Match[bytes]) -> bytes:
         """Returns the denied entry in a match, or the same line with a refusal for memory."""
         nonlocal seen
-        before, seen = seen, found[2]
+        before, seen = seen, found["seen"]
         is_refused = before == seen and rng.random() < 0.3
-        return found[1] + (b'{"refuse":"memory"}' if is_refused else found[3]) + b"\n"
+        return found["front"] + (b'{"refuse":"memory"}' if is_refused else found["reply"]) + b"\n"
 
     return DENIED_IN.sub(refused, text)
 

@@ -80,7 +80,7 @@ def bodies_of_file(file: str, lines: list[str]) -> Iterator[Body]:
             end = next((at for at in range(brace + 1, len(lines)) if lines[at] == found["indent"] + "}"), brace)
             if lines[number - 1].strip() != "#[test]":
                 yield Body(file, f"{module_of(file)}{owner}{found['name']}", brace + 1, end)
-            number = max(number, end)
+            number = max(number, end)  # functions in this body are passed over
         number += 1
 
 
