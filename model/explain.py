@@ -75,7 +75,7 @@ def failing(world: World, i: int, move: Move) -> str:
 
 
 def right_line(world: World, i: int) -> str:
-    """Returns a text with the line that a correct bot would send for node i now."""
+    """Returns a text with the line that a correct bot would send for node i now. If i may marry several nodes, the text names all of them."""
     if i in world.chosen:
         return f"a correct bot would send nothing for node {i}, because its granted move waits for the end of the step"
     moves = world.moves(i)

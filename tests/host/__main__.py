@@ -309,26 +309,28 @@ def raced(room: Path) -> None:
         fail(f"host: another end of raced moves: {ended}")
 
 
+# The byes that end only their own connections: whether each is said at the desk, and the lines before it.
+BYES: list[tuple[bool, list[bytes]]] = [
+    (True, []),  # nobody has greeted
+    (True, [hello("ana")]),  # a student at the desk
+    (True, [line_of(do="hello", key="chalk-", name="tess")]),  # the teacher's name with a wrong key
+    (True, [hello("ana"), hello("tess")]),  # a student, whose second hello is denied
+    (False, []),  # nobody has greeted
+    (False, [hello("tess"), REPORT]),  # the teacher at the students' port
+    (False, [hello("ben")]),  # a student
+]
+
+
 def byes_that_end_nothing(room: Path) -> None:
     """Only a bye at the desk after the teacher's granted hello ends the class. Any other bye ends only its own connection:
-    one at the desk without a granted hello or after that of a student, and every one at the students' port. The class
-    also goes on if the teacher's connection ends without a bye."""
+    one at the desk without a granted hello or after that of a student, and every one at the students' port (BYES). The
+    class also goes on if the teacher's connection ends without a bye."""
     lab, journal = lab_of(room, 4), room / "journal"
     with Host(lab, 0, 0, journal) as host:
         talk = Talk(lab, 4, room)
         student = talk.comes(host.port, hello("ana"))
-        unknown = line_of(do="hello", key="chalk-", name="tess")
-        # The port at which each bye is said, and the lines before it.
-        said: list[tuple[int, list[bytes]]] = [
-            (host.desk, []),  # nobody has greeted
-            (host.desk, [hello("ana")]),  # a student at the desk
-            (host.desk, [unknown]),  # the teacher's name with a wrong key
-            (host.desk, [hello("ana"), hello("tess")]),  # a student, whose second hello is denied
-            (host.port, []),  # nobody has greeted
-            (host.port, [hello("tess"), REPORT]),  # the teacher at the students' port
-            (host.port, [hello("ben")]),  # a student
-        ]
-        for port, lines in said:
+        for is_desk, lines in BYES:
+            port = host.desk if is_desk else host.port
             if lines:
                 caller = talk.comes(port, lines[0])
                 for line in lines[1:]:
@@ -398,8 +400,7 @@ def ended_while_asked(room: Path) -> None:
         half.send(b'{"do":')
         sends_until_full(deaf, look("cyd"))
         for _ in range(20):
-            # Each step is closed after the students have made twenty more looks and moves.
-            for _ in range(20):
+            for _ in range(20):  # until the students have made twenty more looks and moves
                 asked.acquire()
             teacher.ask(CLOSE)
             teacher.ask(fault_at(1))
@@ -423,8 +424,7 @@ def ended_while_asked(room: Path) -> None:
     events = len(journal.read_bytes().splitlines())
     told = audit(lab, journal, events)
     number = told.split(b"configuration ")[1].split(b",")[0]
-    # There are at least the twenty faults and one move.
-    if ended != Ended(0, b"done: %d events, configuration %s\n" % (events, number), b"") or events < 21:
+    if ended != Ended(0, b"done: %d events, configuration %s\n" % (events, number), b"") or events < 21:  # twenty faults and a move
         fail(f"host: another end while students ask: {ended}, {events} events")
     if polls == 160:
         fail("host: its end while students ask takes more than eight seconds")
@@ -540,8 +540,7 @@ def few_descriptors(room: Path) -> None:
             script = room / "clients.script"
             script.write_bytes(b"".join(b"1 " + line for name in NODES for line in (hello(name), look(name), BYE)))
             rules = [line[2:] for line in good(["script", str(lab), str(script)]).splitlines(keepends=True)]
-            # Ten clients of each name get the three replies to its lines, and then the end of the connection.
-            wanted = [(*rules[at:at + 3], b"") for at in range(0, 9, 3)] * 10
+            wanted = [(*rules[at:at + 3], b"") for at in range(0, 9, 3)] * 10  # ten clients of each name get its three replies, and the end
             if sorted(served) != sorted(wanted):
                 fail(f"host: of thirty clients over {descriptors} files {len(served)} are served, or otherwise")
             if host.dismiss(teacher) != NO_EVENTS:

@@ -202,8 +202,7 @@ def halted(lab: Lab, run: Recording) -> list[tuple[str, dict[int, bytes], str]]:
     more. So events that follow it make a record impossible, unless a mark `!` is between. `run` is the short run. A row
     has a name, the text of each seat, and the verdict: the output, or the error without `verify: `."""
     lines = run.texts[1].splitlines(keepends=True)
-    # The teacher's hello, the hello with the first fault, the second fault, and the session's end.
-    hello, first, rest, end = (b"".join(it) for it in (lines[:2], lines[:4], lines[4:-1], lines[-1:]))
+    hello, first, rest, end = (b"".join(it) for it in (lines[:2], lines[:4], lines[4:-1], lines[-1:]))  # `first` ends with a fault, `rest` is one
     halt = b'1 1 > {"do":"fault","node":1,"p":2,"m":false}\n1 1 < {"refuse":"journal"}\n'
     again = halt.replace(b"1 1 ", b"1 2 ")
     greeted = hello.replace(b"1 0 ", b"1 1 ")

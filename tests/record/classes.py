@@ -121,6 +121,7 @@ def killed_and_resumed(room: Path) -> None:
         host.kill()
     for caller in callers:
         caller.close()
+    # Each entry has two lines: here are the first one of tess, and the first four of ana.
     before = {1: b"".join(TESS.splitlines(True)[:2]), STUDENT: b"".join(ANA.splitlines(True)[:8])}
     wants(record, lab, before)
     with Host(lab, 0, 0, journal, record, word="resume") as host:
@@ -145,6 +146,7 @@ def torn_entries(room: Path) -> None:
         host.kill()
     for caller in callers:
         caller.close()
+    # Each entry has two lines: here are the first one of tess, and the first four of ana.
     whole = {1: b"".join(TESS.splitlines(True)[:2]), STUDENT: b"".join(ANA.splitlines(True)[:8])}
     torn = {1: b'1 1 > {"do":"close"}\n', 2: b'2 0 > {"do"', STUDENT: b'4 1 > {"do":"bye"}\n4 1 < {"ok":"b'}
     for seat, content in torn.items():
@@ -181,7 +183,7 @@ def fills(host: Host, name: str) -> None:
         if b'"chosen"' not in ana.ask(MOVE):
             fail(f"record: a student isn't answered where a disk is full, {name}")
     tess.ask(CLOSE)
-    reply = ana.ask(OTHER)
+    reply = ana.ask(OTHER)  # a move of a node that isn't hers
     if b'"deny"' not in reply or ana.ask(BYE) != BID:
         fail(f"record: after a disk is full, {name}, a student is answered {reply!r}")
     ended = host.dismiss(tess)

@@ -114,8 +114,9 @@ def wait_until_gone(pids: Callable[[], Iterable[int]], seconds: float) -> bool:
 
 
 def end_all(groups: list[int], patience: float) -> None:
-    """Ends all processes below this one. First sends SIGTERM to these groups of processes, so that they can clean up,
-    then to all others. Kills those that stay for `patience` seconds."""
+    """Ends all processes below this one. First sends SIGTERM to these groups of processes, and waits at most `patience`
+    seconds, so that they can clean up. Then sends it to all others, and kills those that stay for a quarter of that
+    time."""
     def rest() -> list[int]:
         """Returns the numbers of the processes below this one that haven't ended."""
         return below(os.getpid())

@@ -88,8 +88,8 @@ class Kept:
         return self.folder is not None and (self.folder / name).is_file()
 
     def keep(self, name: str) -> None:
-        """Notes that all edits of the round with this name were refused. Does nothing if the folder can't be
-        written."""
+        """Notes that all edits of the round with this name were refused. Removes the oldest results if there are too many.
+        Does nothing if the folder can't be written."""
         if self.folder is not None:
             with contextlib.suppress(OSError):
                 self.folder.mkdir(mode=0o700, parents=True, exist_ok=True)

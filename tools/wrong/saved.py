@@ -43,7 +43,7 @@ def hand_on(library: Path, to: Path) -> None:
         with listed.open(encoding="utf-8") as lines, modules.open("rb") as all_of_them:
             for line in lines:
                 name, begins, size = json.loads(line)
-                if "/" in name:  # A name without a slash is that of the total, not of a module.
+                if "/" in name:  # A name with a slash is that of the total, and not of a module.
                     continue
                 all_of_them.seek(begins)
                 if (to / f"{name}.oantt").write_bytes(all_of_them.read(size)) != size:
