@@ -10,7 +10,7 @@ use Rattle.mml_tally.specs.{declared.ask.Ask.Ask, declared.record_text.Findings.
 use Rattle.mml_record.specs.{declared.kept_entry.Entry.Entry, Losses.are_paused_for, Losses.are_cut, Halts.outlived, Certified.IsRecordOf, Asks.asks_in, Verdicts.ComesTo, Verdicts.IsFirstBad}
 use Rattle.mml_class.specs.{declared.class_record.ClassRecord.ClassRecord, declared.class_record.ClassFault.ClassFault, declared.granting.Misgranted.Misgranted, Begun.begun_in, Granting.IsFound}
 use Rattle.mml_record.specs.Entries.{record_text, sessions_in, lines_in, are_whole}
-use Rattle.mml_class.specs.Classes.{counted, AreRecordsOf, AreNotOutlived, IsOutlivedText, ComeTo, all_asks, IsClassRecord, IsClassRefused}
+use Rattle.mml_class.specs.Classes.{counted, AreRecordsOf, AreNotOutlived, IsOutlivedText, AreRecordsBefore, ComeTo, all_asks, IsClassRecord, IsClassRefused}
 use Rattle.mml_class.specs.inside.Seats.{no_findings, IsTogether, AddsSeat, IsSeatRefused, AreReadSoFar}
 use Rattle.mml_lab.specs.declared.who.Who.TheVariants as who
 use Rattle.mml_class.specs.declared.class_record.ClassFault.TheVariants as fault
@@ -111,28 +111,25 @@ module _ (lab : LabValue) (l : List Event) (texts : ℕ → List ℕ) where
         asked = λ wanted. read.6 wanted ∙ ap (λ (xs : List Ask). xs ++ asks_in lab.roster read.0) (so.asked wanted) ∙ sym (asks_push so.entries read.0);
       }
 
+  before_seat : (with_asks : Bool) (n number seat : ℕ) (f : Findings) (places : List ℕ) (asks : List Ask) → number ≡ n + 1 → number ≤ lab.sessions
+      → AreReadSoFar lab l with_asks texts n f places asks → seat ≡ number → AreRecordsBefore lab l texts seat
+  before_seat with_asks n number seat f places asks is few so here = record {
+    entries = so.entries;
+    places = places;
+    before = omega (arith, here, is, so.seats);
+    few = omega (arith, here, few);
+    records = so.records;
+    lasting = so.lasting;
+  }
+
   -- if the text of a seat doesn't pass, or couldn't be read, the texts are no record of a class for this reason
   pub bad_seat : (with_asks : Bool) (start : List ℕ) (n number : ℕ) (f : Findings) (places : List ℕ) (asks : List Ask) (why : ClassFault) → number ≡ n + 1
       → number ≤ lab.sessions → AreReadSoFar lab l with_asks texts n f places asks → IsSeatRefused lab l number (texts number) why
       → IsClassRefused lab l start texts why
-  bad_seat with_asks start n number f places asks (fault.Entry seat bad) is few so refused = record {
-    entries = so.entries;
-    places = places;
-    before = omega (arith, refused.0, is, so.seats);
-    few = omega (arith, refused.0, few);
-    records = so.records;
-    lasting = so.lasting;
-    bad = subst (λ (k : ℕ). IsFirstBad lab l k (texts k) bad) (sym refused.0) refused.1;
-  }
-  bad_seat with_asks start n number f places asks (fault.Outlived seat q) is few so refused = record {
-    entries = so.entries;
-    places = places;
-    before = omega (arith, refused.0, is, so.seats);
-    few = omega (arith, refused.0, few);
-    records = so.records;
-    lasting = so.lasting;
-    outlives = subst (λ (k : ℕ). IsOutlivedText lab l k (texts k) q) (sym refused.0) refused.1;
-  }
+  bad_seat with_asks start n number f places asks (fault.Entry seat bad) is few so refused =
+      (before_seat with_asks n number seat f places asks is few so refused.0, subst (λ (k : ℕ). IsFirstBad lab l k (texts k) bad) (sym refused.0) refused.1)
+  bad_seat with_asks start n number f places asks (fault.Outlived seat q) is few so refused =
+      (before_seat with_asks n number seat f places asks is few so refused.0, subst (λ (k : ℕ). IsOutlivedText lab l k (texts k) q) (sym refused.0) refused.1)
   bad_seat with_asks start n number f places asks (fault.Places amiss) is few so refused = absurd refused
   bad_seat with_asks start n number f places asks (fault.Unread why) is few so refused = tt
 

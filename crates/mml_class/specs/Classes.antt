@@ -68,32 +68,27 @@ pub record IsClassRecord (lab : LabValue) (l : List Event) (with_asks : Bool) (s
   pub once : list_all are_whole entries ≡ true → IsEachOnceFrom c.begun (length l) places
   pub asked : with_asks ≡ true → c.asks.items ≡ all_asks lab.roster entries
 
--- the texts of all seats before this one are records, in which no refusal `journal` is outlived; the text of this seat
--- is a record up to `entry`, which can't come next
-pub record IsBadSeat (lab : LabValue) (l : List Event) (texts : ℕ → List ℕ) (seat : ℕ) (entry : BadEntry) : Type 0 where
+-- the texts of all seats before this one are records, in which no refusal `journal` is outlived
+pub record AreRecordsBefore (lab : LabValue) (l : List Event) (texts : ℕ → List ℕ) (seat : ℕ) : Type 0 where
   pub entries : List (List Entry)
   pub places : List ℕ
   pub before : seat ≡ suc (length entries)
   pub few : seat ≤ lab.sessions
   pub records : AreRecordsOf lab l texts 1 entries places
   pub lasting : AreNotOutlived lab (length l) entries
-  pub bad : IsFirstBad lab l seat (texts seat) entry
+
+-- this is the first seat whose text isn't such a record: its text is a record up to `entry`, which can't come next
+abbrev pub IsBadSeat : LabValue → List Event → (ℕ → List ℕ) → ℕ → BadEntry → Type 0
+IsBadSeat lab l texts seat entry = AreRecordsBefore lab l texts seat × IsFirstBad lab l seat (texts seat) entry
 
 -- the text of a seat is a record in which a refusal `journal` is outlived; the first such refusal came after q events
 abbrev pub IsOutlivedText : LabValue → List Event → ℕ → List ℕ → ℕ → Type 0
 IsOutlivedText lab l number text q =
     (es : List Entry) × (own : List ℕ) × IsRecordOf lab l es own × (text ≡ record_text number es) × (outlived lab (length l) None es ≡ Some q)
 
--- the texts of all seats before this one are records, in which no refusal `journal` is outlived; in the text of this
--- seat one is, and the first of these came after q events
-pub record IsOutlivedSeat (lab : LabValue) (l : List Event) (texts : ℕ → List ℕ) (seat q : ℕ) : Type 0 where
-  pub entries : List (List Entry)
-  pub places : List ℕ
-  pub before : seat ≡ suc (length entries)
-  pub few : seat ≤ lab.sessions
-  pub records : AreRecordsOf lab l texts 1 entries places
-  pub lasting : AreNotOutlived lab (length l) entries
-  pub outlives : IsOutlivedText lab l seat (texts seat) q
+-- this is the first seat in whose text a refusal `journal` is outlived, and the first of these came after q events
+abbrev pub IsOutlivedSeat : LabValue → List Event → (ℕ → List ℕ) → ℕ → ℕ → Type 0
+IsOutlivedSeat lab l texts seat q = AreRecordsBefore lab l texts seat × IsOutlivedText lab l seat (texts seat) q
 
 -- the texts of all seats are records, in which no refusal `journal` is outlived, and `amiss` is the first fault in the
 -- places that they grant
