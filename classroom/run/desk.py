@@ -165,8 +165,12 @@ class Desk:
                 raise
             self.announcer.tell_waiting()
         except Refused as refused:
-            if refused.word not in ("full", "journal"):
-                return  # The server is out of memory for a moment, so the close is asked for again.
+            self.note_refusal(refused)
+
+    def note_refusal(self, refused: Refused) -> None:
+        """Ends the run if the server has refused a request because nothing more is granted, after printing the last
+        events. Ignores the refusal `memory`, since the server is then out of memory for a moment only."""
+        if refused.word in ("full", "journal"):
             self.read()
             self.announcer.end_by(refused.word)
 
@@ -186,9 +190,8 @@ class Desk:
         except (Denied, Refused) as no:
             more = f" ({IN_OTHER_WORDS[no.word]})" if no.word in IN_OTHER_WORDS else ""
             self.tell(f"the server {'denied' if isinstance(no, Denied) else 'refused'} this command: {no}{more}")
-            if isinstance(no, Refused) and no.word in ("full", "journal"):
-                self.read()
-                self.announcer.end_by(no.word)
+            if isinstance(no, Refused):
+                self.note_refusal(no)
         except (ValueError, Fault) as error:
             self.tell(str(error))
         return True

@@ -6,7 +6,7 @@ from __future__ import annotations
 import random
 import time
 
-from classroom.client import Denied
+from classroom.client import Denied, Refused
 from classroom.core.program import Fault
 from classroom.run.adversary import Adversary
 from classroom.run.closing import SECONDS, Closing
@@ -29,13 +29,24 @@ class Striker:
     def strike(self, desk: Desk) -> None:
         """Closes a step if the desk's daemon decides so, after releasing the chosen moves that the close mustn't apply.
         If no step is closed and no event has come for SECONDS, prints for whom the class waits, unless steps are closed
-        by hand. If the search of the adversary fails, changes the daemon to when-idle."""
+        by hand. If the search of the adversary fails, changes the daemon to when-idle. If the server refuses a request
+        because nothing more is granted, ends the run. If the server is out of memory, closes no step, so that the next
+        call tries again."""
         now = time.monotonic()
         if desk.closing != self.how:
             self.how, self.closed = desk.closing, now
         if desk.closing.kind in ("every", "when-idle"):
             self.close_by_clock(desk, now)
             return
+        try:
+            self.close_by_moves(desk, now)
+        except Refused as refused:
+            desk.note_refusal(refused)
+
+    def close_by_moves(self, desk: Desk, now: float) -> None:
+        """Closes a step at the time `now` under a daemon that chooses among the granted moves, or prints for whom the
+        class waits. `strike` says when. Raises `Refused` and closes no step if the server refuses a request before the
+        close."""
         known = desk.known
         sight = Sight([node for node, _ in known.report.privileged], list(known.book.chosen), now - known.news_came, now - self.closed)
         try:

@@ -10,14 +10,15 @@ import unittest
 import unittest.mock
 from pathlib import Path
 
-from classroom.client import Client
+from classroom.client import Client, Refused, Report, See
 from classroom.core import lab as labs
 from classroom.core.program import Fault
 from classroom.pages.frames import frames_of
+from classroom.run import announcing, desk as desks
 from classroom.run.daemons import Daemon, Sight, applied, movers
 from classroom.run.striking import Striker
 from classroom.setup.shaking import longest_start, shaken
-from tests.classroom.help import CYCLE, Cycle, Going, KEYS
+from tests.classroom.help import CYCLE, Cycle, Going, InRoom, KEYS
 
 SERVE = tuple(os.environ.get("MML_SERVE", "").split())  # options for the runs, such as `--serve`
 # A line that the desk prints when the network is stable, after a recovery.
@@ -132,6 +133,57 @@ class Striking(unittest.TestCase):
         self.assertLess(len(desk.done), 10)
 
 
+class Refusing(InRoom):
+    """A desk whose server refuses a request that the daemon sends before a close. `desk` has the journal of two granted
+    moves, `client` stands in for its connection, and `lines` are the printed lines."""
+
+    def setUp(self) -> None:
+        """Makes the desk, which has read that the moves of the nodes 1 and 4 were granted."""
+        super().setUp()
+        self.client, self.lines = unittest.mock.Mock(), list[str]()
+        self.client.report.return_value = Report(0, False, (), (), ((1, "update"), (4, "update")), ())
+        journal = self.file("journal", "1 0 grant gus 1 update\n2 0 grant gus 4 update\n")
+        self.desk = desks.Desk(labs.read(CYCLE), journal, self.client, Daemon("central"), self.lines.append)
+        self.addCleanup(self.desk.known.journal.close)
+        self.desk.read()
+        self.striker = Striker()
+        self.addCleanup(self.striker.close)
+
+    def test_if_a_release_is_refused_for_good_one_line_says_why_and_no_step_is_closed(self) -> None:
+        """The run then ends by this refusal."""
+        for word, line in (("full", "nothing more is granted: all 1000 events "), ("journal", "nothing more is granted: no line can be written ")):
+            with self.subTest(word), unittest.mock.patch.object(announcing, "PAUSE", 0):
+                self.lines.clear()
+                self.desk.announcer.over = ""
+                self.client.release.side_effect = Refused(word)
+                for _ in range(2):
+                    self.striker.strike(self.desk)
+                self.assertEqual(self.desk.announcer.over, word)
+                self.assertEqual([told[:len(line)] for told in self.lines], [line])
+                self.client.close.assert_not_called()
+
+    def test_if_a_release_is_refused_as_memory_the_daemon_tries_it_again(self) -> None:
+        self.client.release.side_effect = Refused("memory")
+        self.striker.strike(self.desk)
+        self.client.close.assert_not_called()
+        self.client.release.side_effect = None
+        self.striker.strike(self.desk)
+        self.client.close.assert_called_once_with()
+        self.assertEqual((self.lines, self.desk.announcer.over), ([], ""))
+
+    def test_if_the_adversary_s_look_is_refused_as_memory_it_tries_again(self) -> None:
+        """It looks at all nodes before it chooses. Here it chooses both moves."""
+        self.desk.closing = Daemon("adversary")
+        self.client.see.side_effect = Refused("memory")
+        with unittest.mock.patch.object(self.striker.adversary, "choose", side_effect=lambda made, nodes: list(nodes)):
+            self.striker.strike(self.desk)
+            self.client.close.assert_not_called()
+            self.client.see.side_effect = lambda node: See(node, None, False, 0)
+            self.striker.strike(self.desk)
+        self.client.close.assert_called_once_with()
+        self.assertEqual((self.lines, self.desk.announcer.over, self.desk.closing), ([], "", Daemon("adversary")))
+
+
 class Desk(Cycle):
     """Runs with the four bots of the cycle."""
 
@@ -179,6 +231,23 @@ class Desk(Cycle):
     def test_under_the_random_daemon_not_all_privileged_nodes_move_in_some_step(self) -> None:
         steps = self.steps(self.run_with_recoveries("random:0.5", "break", "shake all 3"))
         self.assertTrue(any(moved != privileged for privileged, moved in steps))
+
+    def test_the_run_ends_as_usual_if_a_daemon_has_to_release_two_moves_but_one_event_is_left(self) -> None:
+        """Three moves are granted, and the lab allows four events. The central daemon applies one of these moves, so it
+        has to release the two others."""
+        lab = self.file("cycle.toml", re.sub(r"(?m)^events = \d+", "events = 4", CYCLE.read_text(encoding="utf-8")))
+        going = Going(self, lab, "--close", "by-hand", *SERVE)
+        for name, key in KEYS.items():
+            with Client(going.port, name, key) as student:
+                for look in map(student.look, labs.read(CYCLE).nodes_of(name)):
+                    if look.rule is not None:
+                        student.move(look)
+        going.until("^the lab allows 4 events, and 3 of them are used")
+        going.type("daemon central")
+        going.until("^nothing more is granted: all 4 events that the lab allows are used")
+        self.assertEqual(going.ends(), 5, going.lines)
+        self.assertEqual(self.whole(going.folder), 4)
+        self.assertEqual(sum(line.startswith("nothing more is granted") for line in going.lines), 1, going.lines)
 
     def test_the_commands_daemon_and_shake_act_and_are_refused_in_a_wrong_form(self) -> None:
         """The registers that `shake 2 5` sets are those that its seed, 5, determines."""
