@@ -135,12 +135,12 @@ class Played:
         and the data with a row for each."""
         each = iter(frames)
         first = next(each)
-        self.drawing = drawing_of(lab.without_house(), first.state.links)
+        self.drawing = drawing_of(lab.without_house())
         # All frames may share one state, so the picture of the first is drawn before the next is read.
         self.picture, rows = self.drawing.svg(first.state, None), Frames(self.drawing)
         for frame in chain([first], each):
             rows.add(frame, len(frame.state.links))
-        self.data = as_element(constant_data(self.drawing, first.state) | {"links": rows.drawn_links(), "frames": rows.rows})
+        self.data = as_element(constant_data(self.drawing) | {"links": rows.drawn_links(), "frames": rows.rows})
 
     def page(self, title: str, history: str = "") -> str:
         """Returns the text of the HTML page with this title. `history` is a section of HTML beside the player."""
@@ -159,7 +159,7 @@ def live_page(title: str, drawing: Drawing, state: State, acts: bool) -> tuple[s
     # The first message to the page has all links, and later ones have new links.
     own = {"links": [], "acts": acts, "buttons": {name: it.line for name, it in BUTTONS.items()}, "byLinks": BY_LINKS}
     parts = {name: button(it) for name, it in BUTTONS.items()}
-    return drawing_page("live", title, drawing, drawing.svg(state, None), as_element(constant_data(drawing, state) | own), parts)
+    return drawing_page("live", title, drawing, drawing.svg(state, None), as_element(constant_data(drawing) | own), parts)
 
 
 def button(it: Button) -> str:
@@ -168,10 +168,11 @@ def button(it: Button) -> str:
     return f'<button id="{it.name}"{more}>{escape(it.text)}</button>'
 
 
-def constant_data(drawing: Drawing, state: State) -> dict[str, Any]:
-    """Returns the part of a page's data that doesn't change during the run, with the drawing for a screen and the one
-    for a phone. `state` has the links that are drawn."""
-    phone = drawing_of(drawing.lab, state.links, TALL)
+def constant_data(drawing: Drawing) -> dict[str, Any]:
+    """Returns the part of a page's data that doesn't change during the run, with two drawings: `drawing`, the one for a
+    screen, and one for a phone. Both have the layout for the links of the lab, with which the run begins. Links that
+    are added or removed later don't change the position of a node."""
+    phone = drawing_of(drawing.lab, field=TALL)
     return {
         "nodes": [{"id": node.id, "owners": node.owners} for node in drawing.lab.nodes],
         "rules": RULES, "edits": EDITS, "witnessesMost": WITNESSES_MOST, "openMost": OPEN_MOST, "views": [drawing.data(), phone.data()],

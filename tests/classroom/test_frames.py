@@ -2,6 +2,7 @@
 the network after it. The first frame has the state at the beginning, and no event."""
 from __future__ import annotations
 
+import json
 import re
 import stat
 import sys
@@ -15,6 +16,8 @@ from classroom.core.program import Fault
 from classroom.pages import replay as module
 from classroom.pages.drawing import drawing_of
 from classroom.pages.frames import Frame, State, frames_of
+from classroom.pages.layout import TALL, WIDE
+from classroom.pages.page import live_page, page_of
 from tests.classroom.runs import BUILT_IN, PROGRAM, TOP, edited_run, examples
 
 
@@ -61,6 +64,22 @@ class Replayed(unittest.TestCase):
             (10, ("null, m false", "3, m true, married to 3", "2, m true, married to 2")),
         ):
             self.assertEqual(said[place], [f"{node}{word}" for node, word in zip(of, words)])
+
+    def test_both_drawings_of_a_page_have_the_layout_for_the_links_at_the_beginning(self) -> None:
+        """One drawing is for screens, and the other for phones. The links form a path at the beginning, and another
+        path after a link and a cut. One page replays the run. The other page shows a run that goes on, and is opened
+        after these events."""
+        lab, journal = edited_run(self.room)
+        known, frames = frames_of(lab, journal)
+        replayed = page_of("edited", known, frames)
+        last = states(lab, journal)[-1]
+        live, _ = live_page("edited", drawing_of(known), last, False)
+        wanted = [drawing_of(known, known.links, field).data() for field in (WIDE, TALL)]
+        self.assertNotEqual(drawing_of(known, last.links, TALL).data()["points"], wanted[1]["points"])
+        for name, page in (("replayed", replayed), ("live", live)):
+            data = json.loads(page.partition('data-form="plain">')[2].partition("</script>")[0])
+            with self.subTest(name):
+                self.assertEqual(data["views"], json.loads(json.dumps(wanted)))
 
     def test_each_kind_of_event_changes_the_state_as_it_should(self) -> None:
         """For each kind, the state after the first event of this kind is checked."""
