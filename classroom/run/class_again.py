@@ -42,12 +42,13 @@ def begin(member: Member, several: Several, again: bool, starts: bool) -> None:
     purpose, only marks the network as ended, unless both `starts` and `again` are set. `several` is the desk of the
     class."""
     record = Record.read(member.folder)
+    member.has_desk = record is not None  # A process that takes the desk writes the record.
     if record is not None and record.ended and not record.goes_on() and not (starts and again):
         member.status = ENDED
     elif starts or record is not None and record.server.lives():
         member.start(several.hear, several.note_end)
     else:
-        member.status, member.has_desk = DOWN, record is not None  # A process that takes the desk writes the record.
+        member.status = DOWN
         member.alarm = f"its server has ended; {member.remedy()}"
         several.say(several.alarm(member))
 

@@ -114,7 +114,8 @@ class Member:
         if fact:
             self.facts[fact] = value
         self.why = line if DIED.fullmatch(line) else self.why
-        self.is_ready = self.has_desk = self.is_ready or line.startswith(READY)
+        self.is_ready = self.is_ready or line.startswith(READY)
+        self.has_desk = self.has_desk or self.is_ready
         if self.status == STARTS and self.is_ready and self.wanted <= self.facts.keys():
             self.status = RUNS
         # The line by which the start is complete is still one of the start.

@@ -173,6 +173,38 @@ class OneDesk(Classes):
         self.assertEqual((again.returncode, again.stderr), (1, f"class: {desk.folder}: all runs of this class were ended. To continue them, "
                                                                f"type: {CLASS} run --resume {desk.folder} --again\n"))
 
+    def broken(self) -> str:
+        """Writes a stand-in for the server's program, and returns its path. It is the program, except that it removes
+        `run.json` and ends whenever it is to resume a run."""
+        program = self.file("broken", f'#!/bin/bash\n[ "$1" != resume ] || {{ rm "${{2%/*}}/run.json"; exit 4; }}\nexec {host()} "$@"\n')
+        program.chmod(0o755)
+        return str(program)
+
+    def test_a_resumed_network_that_has_lost_run_json_is_only_offered_to_be_given_up(self) -> None:
+        """Its run can't be resumed again, and `resume` would begin a new one."""
+        desk = GoingClass(self, "run", *self.labs, "--into", self.room / "runs", "--port", str(a_port()), "--close", "by-hand", MML_HOST=self.broken())
+        desk.kill("maths-2")
+        desk.until("^ALARM maths-2 is down: .*; type `resume 2` to continue it, or `end 2` to give it up$")
+        desk.type("resume 2")
+        self.assertRegex(desk.until("^ALARM maths-2 is down: class: the server can't be started"), "; type `end 2` to give it up$")
+        desk.type("end 2\nend 1\nend 1")
+        self.assertEqual(desk.ends(), 4, desk.lines)
+
+    def test_in_a_resumed_class_too_a_network_that_has_lost_run_json_is_only_offered_to_be_given_up(self) -> None:
+        desk = self.begin("--close", "by-hand")
+        desk.process.kill()
+        desk.process.wait(LIMIT)
+        for name in ("maths-1", "maths-2"):
+            desk.kill(name)
+        wait_until(lambda: not any(desk.record(name).goes_on() for name in ("maths-1", "maths-2")))
+        again = GoingClass(self, "run", "--resume", desk.folder, MML_HOST=self.broken())
+        alarms = sorted(line for line in again.lines if "ALARM" in line)
+        self.assertEqual(len(alarms), 2, again.lines)
+        for number, line in enumerate(alarms, 1):
+            self.assertRegex(line, f"^ALARM maths-{number} is down: class: the server can't be started.*; type `end {number}` to give it up$")
+        again.type("end 1\nend 2")
+        self.assertEqual(again.ends(), 4, again.lines)
+
     def test_a_signal_ends_a_class_with_a_page_and_a_network_that_is_down(self) -> None:
         """The page, on which this network could be resumed, doesn't keep the class from ending."""
         desk = self.begin("--close", "by-hand", "--page", str(a_port()))
