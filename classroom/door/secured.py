@@ -38,7 +38,8 @@ class Secured:
 
     @property
     def network(self) -> str | None:
-        """Returns the server name that the client sent in the handshake, or None if it sent none."""
+        """Returns the server name that the client sent in the handshake, or None if it sent none. The program of a student
+        sends the name of its network there. Other clients may send any text, such as the door's host name."""
         return getattr(self.tls, "network", None)  # `serving.note_network` sets this attribute in the handshake.
 
     @property

@@ -191,7 +191,9 @@ class Builds(InClone):
         self.assertEqual(sorted(runs[2:4]), ["low left", "low right"])
         self.assertEqual(runs[4:], ["low left right mml_host"])
 
-    def test_if_rt_keeps_no_proofs_a_single_run_proves_everything(self) -> None:
+    def test_if_rt_keeps_no_proofs_a_last_run_proves_everything(self) -> None:
+        """The first run of all crates is stopped when it begins to prove, as always. The run of `low` then prints that
+        nothing is kept. So no other crate gets a run of its own, and one more run proves all crates."""
         self.set("lacks", "the store cannot be used, so nothing is kept: the next run, and the merge, prove all again")
         done = self.call("./mml", "build")
         self.assertEqual(done.returncode, 0, done.stderr)

@@ -61,7 +61,7 @@ class InTree(unittest.TestCase):
         self.stood = self.files()
 
     def files(self) -> list[str]:
-        """Returns the paths of all files of the tree."""
+        """Returns the paths of all files and folders of the tree, sorted."""
         return sorted(str(it.relative_to(self.tree)) for it in self.tree.rglob("*"))
 
     def environment(self, **more: str) -> dict[str, str]:

@@ -45,7 +45,7 @@ RUN_BEFORE = {
 MARKS = ("sh not run", "text")
 
 
-def tracked() -> list[str]:
+def not_ignored() -> list[str]:
     """Returns the paths of the repository's files: those that are committed, and new ones that git doesn't ignore."""
     listed = subprocess.run(["git", "ls-files", "-co", "--exclude-standard"], cwd=TOP, capture_output=True, text=True, check=True)
     return [path for path in listed.stdout.splitlines() if (TOP / path).exists()]
@@ -217,7 +217,7 @@ def counted(pages: Iterable[str]) -> dict[str, int]:
 
 def main() -> None:
     """Checks the documents, counts words, or prints the commands of pages."""
-    counts = counted(path for path in tracked() if is_page(path) and path != "CHANGELOG.md")
+    counts = counted(path for path in not_ignored() if is_page(path) and path != "CHANGELOG.md")
     total = sum(counts.values())
     if sys.argv[1:] == ["--words"]:
         print("\n".join(f"{counts[page]:6} {page}" for page in sorted(counts)))
@@ -226,7 +226,7 @@ def main() -> None:
     if sys.argv[1:]:
         print("\n".join(dict.fromkeys(command for page in sys.argv[1:] for command in commands_of(page))))
         return
-    files = tracked()
+    files = not_ignored()
     folders = {str(parent) for path in files for parent in Path(path).parents}
     words, laws, texts = words_of(files), laws_of(files), sources_of(files)
     declared: set[str] = set().union(*map(declared_in, texts.values()))

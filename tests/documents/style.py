@@ -141,12 +141,12 @@ def faults(files: list[str]) -> list[str]:
 def main() -> None:
     """Prints the faults of all files, those of the pages in the arguments, or the counts. Exits with status 1 if there
     is a fault."""
-    from tests.documents.__main__ import tracked
+    from tests.documents.__main__ import not_ignored
 
     if sys.argv[1:] == ["--counts"]:
-        print("\n".join(f"{count} {where}" for where, count in counts(tracked()).items()))
+        print("\n".join(f"{count} {where}" for where, count in counts(not_ignored()).items()))
         return
-    lines = [f"{page}: {each}" for page in sys.argv[1:] for each in wrong_in(page)] if sys.argv[1:] else faults(tracked())
+    lines = [f"{page}: {each}" for page in sys.argv[1:] for each in wrong_in(page)] if sys.argv[1:] else faults(not_ignored())
     print("\n".join(lines))
     sys.exit(1 if lines else 0)
 

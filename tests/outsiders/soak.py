@@ -198,8 +198,10 @@ def beside_a_class(room: Path, seconds: float, rate: int) -> None:
 
 
 def beside_a_host(room: Path, seconds: float, rate: int) -> None:
-    """Runs a host beside outsiders who come at this rate. A client with a key connects each second. Prints each minute
-    what the host has."""
+    """Runs a host for these seconds beside outsiders who come at this rate. After each round, a load of ROUND seconds
+    and a rest, prints the host's threads, descriptors and memory, and the waiting times of a client with a key. Fails if
+    the host has more of these at the end than after the warm-up, if it ends with another status than 0 or 4, or if its
+    journal isn't legal."""
     lab, journal, waits = lab_of(room, 16, 100_000), room / "journal", Waits()
     with Host(lab, 0, 0, journal, room / "record") as host:
         def load(for_so_long: float) -> None:
@@ -220,12 +222,12 @@ def beside_a_host(room: Path, seconds: float, rate: int) -> None:
             time.sleep(REST)
 
         load(WARM)
-        first, minutes = Held.of(host.process.pid), 0
+        first, rounds = Held.of(host.process.pid), 0
         end = time.monotonic() + seconds
         while (left := end - time.monotonic()) > 0:
             load(min(ROUND, left))
-            minutes += 1
-            print(f"{minutes}: {Held.of(host.process.pid)}; {waits}", flush=True)
+            rounds += 1
+            print(f"{rounds}: {Held.of(host.process.pid)}; {waits}", flush=True)
         last = Held.of(host.process.pid)
         ended = host.dismiss(let_in(host.desk, hello("tess"))[0])
     audit(lab, journal, 0)

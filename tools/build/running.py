@@ -25,8 +25,7 @@ WIDE = Path(__file__).with_name("wide.py")
 PROVER = "rattle"  # the name of a process that proves
 PROVED = re.compile(r"^rt: (\w+) (?:proved|(is kept): .*)$", re.MULTILINE)
 NOT_KEPT = re.compile(r"^rt: note: .*(nothing is kept|is not kept)", re.MULTILINE)
-KEPT = "is kept"  # `rt` prints these words for a crate that an earlier run proved
-RT_FILES = ("rt", "rtlib.py")  # the files of `rt`, which is written in Python
+KEPT = b"is kept"  # `rt` prints these words for a crate that an earlier run proved
 
 
 class Stopped(Exception):
@@ -39,10 +38,11 @@ class Stopped(Exception):
 
 
 def can_keep() -> bool:
-    """Returns whether the toolchain's `rt ci` can use proofs of earlier runs again. Older toolchains can't: their files
-    don't contain the words that `rt ci` prints for a crate whose proofs it uses again. `rt` must be on the path."""
+    """Returns whether the toolchain's `rt ci` can use proofs of earlier runs again. Older toolchains can't: `rt`, and the
+    files beside it whose names begin so, don't contain the words that `rt ci` prints for a crate that is kept. `rt`
+    must be on the path."""
     rt = Path(shutil.which("rt") or "rt").resolve()
-    return any(KEPT in (rt.parent / name).read_text(encoding="utf-8", errors="replace") for name in RT_FILES if (rt.parent / name).is_file())
+    return any(KEPT in it.read_bytes() for it in rt.parent.glob("rt*") if it.is_file())
 
 
 def raise_on_signals() -> None:

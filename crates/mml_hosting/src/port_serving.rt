@@ -313,8 +313,9 @@ impl<'s, Y: ClassTypes + 's, H: Begun + Send + Sync + 's> Shared<'s, Y, H> {
     }
 
     /// Takes back the seats whose threads have ended. Then serves a connection (`ends`) in the free seat that
-    /// `next_free` returns, as `serve_apart` does. If `next_free` returns `None`, turns the connection away. `cut_off`
-    /// is the means to end the connection from the port's thread. Both lists must have room for all seats.
+    /// `next_free` returns, as `serve_apart` does. If no thread can be made, the session is over when this returns, and
+    /// its seat is free again. If `next_free` returns `None`, turns the connection away. `cut_off` is the means to end
+    /// the connection from the port's thread. Both lists must have room for all seats.
     fn take_in<E>(
         &self,
         scope: &Scope<'s, E>,

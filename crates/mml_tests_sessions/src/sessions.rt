@@ -155,8 +155,8 @@ fn ana_moving(step: usize) -> FakeReader<'static> {
 
 /// Serves `ANA_MOVES` with a writer that stores one byte in each write, and fails after `good` bytes. Returns whether
 /// exactly the first `good` bytes of the replies are written, and the session ends with `WriteFault`, or with `End` if
-/// these are all bytes. The move must stay granted: the close applies it even if its reply wasn't written. The house
-/// must end rightly, as `serve` defines it.
+/// these are all bytes. Both lines come in one read, and are answered before anything is written. So the move must be
+/// granted even if no byte can be written. The house must end rightly, as `serve` defines it.
 fn tells_a_write<R: Wait>(rt: &R, alloc: Global, good: usize) -> Result<bool, Fail> {
     let reader = ana_moving(usize::MAX);
     let mut writer = FakeWriter::failing_after(good, alloc);

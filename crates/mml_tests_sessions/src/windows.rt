@@ -250,8 +250,9 @@ fn decides_alone<H: House, R: Wait>(
     Ok((holds, ending_of(&book.finish_from(rt, windows, 0))))
 }
 
-/// Checks that a book decides rightly without its lock. Also checks that a house doesn't leave a log if no window has
-/// the place of its event.
+/// Checks a book without its lock, whose sink fails at the second line: it grants a move, refuses another one with
+/// `Journal`, and denies the first one when it is asked again (`refuses_the_second`). Also checks that the house leaves
+/// no log, since no window has the place of the granted move.
 #[test]
 fn a_book_decides_alone(rt: HostRuntime) -> Result<(), Fail> {
     let blank = open_path(&rt, rt.alloc(), Some(2))?;

@@ -50,7 +50,8 @@ impl<'a> Steps<'a> {
         })
     }
 
-    /// Returns the counter of the steps of a connection, numbered from 1, or `None` if there is no such connection.
+    /// Returns the counter of the steps of a connection, or `None` if no connection has this number. Connections are
+    /// numbered from 1, and `connection` mustn't be 0.
     fn count_of(&self, connection: u8) -> Option<&AtomicU64> {
         self.steps.get(usize::from(connection.saturating_sub(1)))
     }

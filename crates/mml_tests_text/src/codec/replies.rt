@@ -86,7 +86,8 @@ fn replies_of_lab(alloc: Global, lab: &Lab) -> Result<(String, String, bool), Fa
     Ok((line_of_see(alloc, lab)?, report_line(alloc, lab)?, stays))
 }
 
-/// Returns the three results of `replies_of_lab` for the lab `FAR_APART`, of two nodes far apart.
+/// Returns the three results of `replies_of_lab` for the lab `FAR_APART`: the line of a see, the line of a report, and
+/// whether the vector keeps its capacity. The lab has two nodes, with the identifiers 7 and 65535.
 fn replies_far_apart(alloc: Global) -> Result<(String, String, bool), Fail> {
     let lab = boxed_lab(alloc, FAR_APART)?;
     replies_of_lab(alloc, &lab)
