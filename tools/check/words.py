@@ -3,6 +3,7 @@ side by side."""
 from __future__ import annotations
 
 import argparse
+import math
 import sys
 from functools import partial
 
@@ -20,8 +21,8 @@ LEFT_OUT = {  # texts about the parts that `./check quick` leaves out
 
 
 def taking(least: float) -> str:
-    """Returns a text that says how long a subcommand runs: `least` minutes on four processors, rounded."""
-    return f"about {least + 0.5:.0f} minutes on four processors"
+    """Returns a text that says how long a subcommand runs: `least` minutes on four processors, rounded up."""
+    return f"about {math.ceil(least)} minutes on four processors"
 
 
 def parser() -> argparse.ArgumentParser:
