@@ -67,12 +67,14 @@ def row(marks: Marks, lab: Lab, name: str, network: str, denied: Sequence[int | 
     first = {"student": name, "network": network, "first": known(marks.first), "last": known(marks.last), "whole": is_whole}
     counts = {"granted": marks.granted.total(), "applied": marks.applied.total(), **{rule: marks.applied[rule] for rule in RULES},
               "steps": marks.steps, "shared": marks.shared, "nodes": len(lab.nodes_of(name))}
-    return with_more(first, counts, dict(zip(DENIED, denied)))
+    return rule_values(first, counts, dict(zip(DENIED, denied)))
 
 
-def with_more(first: dict[str, Value], counts: Mapping[str, int], denied: Mapping[str, int | None]) -> dict[str, Value]:
-    """Returns the values in `first`, the counts in `counts` and `denied`, and the values that are computed from these
-    counts, all by their names. A count or value that isn't known is None."""
+def rule_values(first: dict[str, Value], counts: Mapping[str, int], denied: Mapping[str, int | None]) -> dict[str, Value]:
+    """Returns all values that a rule can use, by their names. They are those in `first`, `counts` and `denied`, and
+    others that are computed from them. The counts of the clauses appear again under the names in CLAUSES, and their sum
+    as `denials`. There are also the granted and applied moves per node. `counts` must have `granted`, `applied` and
+    `nodes`, and `denied` must have each clause in CLAUSES. A value that isn't known is None."""
     each = {name: known(count) for name, count in denied.items()}
     clauses = [denied[clause] for clause in CLAUSES]
     sums = {"denials": None if None in clauses else Fraction(sum(clause or 0 for clause in clauses))}

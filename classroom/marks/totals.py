@@ -15,7 +15,7 @@ from classroom.core.lab import Lab
 from classroom.core.lists import People, Person
 from classroom.core.printable import guarded, printable
 from classroom.core.tally import DENIED, Marks, RecordCounts
-from classroom.marks.columns import MORE, with_more
+from classroom.marks.columns import MORE, rule_values
 from classroom.marks.rule import Rule, Value
 
 HEADS = ["granted", "applied", *RULES, "steps", "shared", "runs", *DENIED, "recorded", *MORE]
@@ -36,7 +36,8 @@ class Total:
     networks: dict[str, None] = field(default_factory=dict)  # the networks whose labs have the person, in order
 
     def add(self, marks: Marks, denied: Counter[str], is_whole: bool, nodes: int, network: str) -> None:
-        """Adds a person's marks in a run of this network. `denied` has the counts of the run's record, `is_whole` says
+        """Adds a person's marks in a run of this network. `denied` has the number of this person's lines that were
+        denied or malformed in the run, by the names in DENIED, as far as the run's record has them. `is_whole` says
         whether that record is complete, and `nodes` is the number of the person's nodes."""
         self.nodes += nodes
         self.networks[network] = None
@@ -66,8 +67,8 @@ class Total:
         is_whole = self.recorded == self.runs
         counts = {"granted": self.granted, "applied": self.applied.total(), **{rule: self.applied[rule] for rule in RULES},
                   "steps": self.steps, "shared": self.shared, "nodes": self.nodes, "runs": self.runs, "recorded": self.recorded}
-        return with_more({"student": name, "network": self.network, "whole": is_whole}, counts,
-                         {each: self.denied[each] if is_whole else None for each in DENIED})
+        return rule_values({"student": name, "network": self.network, "whole": is_whole}, counts,
+                           {each: self.denied[each] if is_whole else None for each in DENIED})
 
 
 @dataclass(frozen=True)

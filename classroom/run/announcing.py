@@ -66,11 +66,12 @@ class Announcer:
             self.end_by("full")
 
     def recount(self) -> None:
-        """Counts the moves and rounds of the present recovery in the past events. If the program can't be asked, prints
-        that. The next line about a stable class then has no counts."""
+        """Brings `comeback` up to date with the past events, so that it has the moves and rounds of the present
+        recovery. If mml can't be asked, prints that. Then `comeback` only gets the past faults, links and cuts, and the
+        next line about a stable class has no counts."""
         past = self.known.past
         try:
-            Recount(self.lab, past, self.comeback).counts()
+            Recount(self.lab, past, self.comeback).counts()  # counts into `comeback`
         except Fault as fault:
             self.tell(f"the moves and rounds of this run so far can't be counted, since mml gave an error: {fault}")
             for event in past:  # The present links are needed all the same.

@@ -270,8 +270,9 @@ def start_warnings(path: Path, lab: labs.Lab) -> Iterator[str]:
 
 
 def warnings(path: Path) -> Iterator[str]:
-    """Yields all warnings about the lab in a file, which the program accepts. If the lab can't be read here, that is
-    one of them, and its keys, owners and limits aren't checked."""
+    """Yields all warnings about the lab in a file, which the program accepts. If `labs.read` fails all the same, the
+    unknown TOML keys and tables are still reported, and that the lab can't be read. Then the people's secret keys, the
+    network with its owners, the limits and the beginning aren't checked."""
     text = path.read_text(encoding="utf-8-sig")
     for line, key, meant in unknown_keys(text):
         more = f" {suggestion(key, meant)}" if meant else ""

@@ -114,13 +114,15 @@ class Builds(InClone):
         # A proof that gets all processors sees twice as many, since `rt` takes half of those that it sees (tools/build/wide.py).
         self.assertEqual((each["low"], each["left"], each["right"]), (2 * number, 2 * number, number))
 
-    def test_a_proof_that_runs_alone_is_given_twice_the_memory(self) -> None:
-        """A proof beside which no other can run is given twice the memory, and every other one the memory that there is."""
+    def test_rt_sees_twice_the_memory_for_a_proof_that_runs_alone(self) -> None:
+        """If no other proof can run beside one, `rt` is made to see twice the memory (`--alone` in
+        tools/build/wide.py). The reason is that its estimate for large crates is too high. Here `low` and `mml_host`
+        run alone, and `left` and `right` run side by side, since the setting `meets` names them."""
         self.set("meets", "left right")
         self.assertEqual(self.call("./mml", "build", RT_JOBS="2").returncode, 0)
         there = int(Path("/proc/meminfo").read_text(encoding="ascii").split()[1])  # the first number is that of MemTotal
         told = [line.split() for line in (self.room / "memory").read_text(encoding="utf-8").splitlines()]
-        each = {crate: int(memory) for crate, _, memory in told[1:]}
+        each = {crate: int(memory) for crate, _, memory in told[1:]}  # The first line is that of the run of all crates.
         self.assertEqual(each, {"low": 2 * there, "left": there, "right": there, "mml_host": 2 * there})
 
     def test_in_a_git_clone_the_proofs_run_in_a_folder_of_git(self) -> None:

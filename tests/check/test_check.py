@@ -141,7 +141,9 @@ class Outcomes(InTree):
         done = self.check("quick")
         self.assertEqual((done.returncode, done.stdout.splitlines()[-1]), (1, "0 passed, 1 failed"))
 
-    def test_a_part_without_what_it_must_have_fails(self) -> None:
+    def test_a_part_fails_if_a_need_is_missing_that_is_a_must(self) -> None:
+        """If another need is missing, its parts are only left out. The need `must`, which is always missing here, makes
+        its parts fail, even without the variable CI."""
         self.stand_in(part("well", WELL), part("one", WELL, needs=("must",)), part("two", WELL, needs=("must",)))
         done = self.check("quick")
         self.assertEqual((done.returncode, done.stdout.splitlines()[-1]), (1, "1 passed, 2 failed"))

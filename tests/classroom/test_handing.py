@@ -143,8 +143,9 @@ class Anew(Slips):
         self.assertEqual([(self.room / f"maths-{number}.toml").read_bytes() for number in (1, 2)], labs)
 
     def test_without_options_the_slips_stay_the_same(self) -> None:
-        """Port and door are taken from the earlier slips. If these were removed, the same options make the same slips,
-        except for the rooms, which nothing else contains."""
+        """Port, door and the networks' rooms are taken from the students' earlier slips. If these were removed, the
+        same options make the same slips, but without the rooms of the class list. The labs don't contain the rooms, and
+        the command reads no other file that does."""
         self.new("--door", DOOR, "--port", "5001")
         before, page = self.slips(), self.page(2)
         self.again()

@@ -70,7 +70,8 @@ class Large(Played):
 
     def measure_opening(self, page: Path) -> float:
         """Opens a page, and shows its first state. Returns the processor time that it takes in milliseconds, divided by
-        the slowness of this machine."""
+        the slowness of this machine. Relies on the browser to count the time of each page from 0. The load by which
+        `slowness` measures runs in a blank page before, so that it doesn't count."""
         self.driver.get("about:blank")
         slowness = self.slowness()
         self.driver.get(page.as_uri())

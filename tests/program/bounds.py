@@ -115,8 +115,9 @@ class Counted:
 
 
 def play_and_count(file: Path, steps: list[Step]) -> Counted:
-    """Plays these steps with the lab in a file, and checks that the run is stable exactly after the last step. Returns
-    its counts."""
+    """Plays these steps with the lab in a file. Checks that the network is stable after the last step, and not before.
+    Also checks that the audit and the tally of the run's journal have the same numbers as the reports. Returns the
+    moves and rounds, the bounds on them in the tally, and the reports."""
     reports = play(file, steps)
     if [report["stable"] for report in reports] != [False] * len(steps) + [True]:
         fail(f"{file.name}: not stable where the run ends, or before")

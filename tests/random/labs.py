@@ -128,8 +128,8 @@ def quoted(text: str) -> str:
 
 
 def node_line(rng: Random, i: int, owners: list[str], registers: Registers) -> str:
-    """Returns the lines of node i in a lab's file. Registers that are null or false are left out, except sometimes a
-    false."""
+    """Returns the line of node i in a lab's file. A single owner is mostly written as `owner`. Otherwise the owners are
+    written as a list, `owners`. Registers that are null or false are left out, except sometimes a false."""
     is_short = len(owners) == 1 and rng.random() < 0.8
     owner = f"owner = {quoted(owners[0])}" if is_short else f"owners = {json.dumps(owners)}"
     p = "" if registers.p[i] is None else f", p = {registers.p[i]}"

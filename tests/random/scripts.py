@@ -32,7 +32,8 @@ class Drawing:
         return self.rng.choice(self.nodes)
 
     def hello(self) -> Asked:
-        """Returns a random hello with a right key, mostly of a person who isn't connected."""
+        """Returns a random hello, mostly of a person who isn't connected. The key is mostly the right one, and
+        sometimes another person's. Sometimes the name is one that the lab doesn't have."""
         names = list(self.lab.keys)
         absent = [name for name in names if name not in self.model.names.values()]
         name = self.rng.choice(absent if absent and self.rng.random() < 0.8 else names)

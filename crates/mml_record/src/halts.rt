@@ -80,8 +80,8 @@ fn first_halt(first: Option<u64>, judged: u64, halts: bool) -> Option<u64>
     }
 }
 
-/// Returns `first`, which is how many events had been seen at a refusal, if it is less than `count`. Otherwise, or if
-/// there is no refusal, returns `None`.
+/// Returns `first` if more events followed a refusal, and `None` otherwise. `first` is how many events had been seen at
+/// the refusal, or `None` if there was none. `count` is how many events there were when that life of the server ended.
 fn outlived_at(first: Option<u64>, count: u64) -> Option<u64>
     ensures { result ≡ outlived_at first count }
 {

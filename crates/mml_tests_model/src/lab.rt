@@ -149,8 +149,9 @@ fn is_copied(alloc: Global, network: &Network) -> Result<bool, Memory> {
     Ok(copy.size() == network.size())
 }
 
-/// Returns three results: a lab as text, whether a copy of its network is right, and the result of `first_other_index`
-/// for its roster.
+/// Returns three results. The first is a lab as text, and the second is whether a copy of its network is right. The
+/// third is the first name of `INDEXES` whose student has a wrong index in the lab's roster, or `None` if there is no
+/// such name.
 fn shown_of_lab(alloc: Global, lab: &Lab) -> Result<(String, bool, Option<&'static str>), Fail> {
     let text = shown(alloc, lab)?;
     Ok((

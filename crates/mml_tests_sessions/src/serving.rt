@@ -87,8 +87,9 @@ const STEP: &str = lines!(hello("tess", "chalk"), close);
 /// The replies to `STEP` if the close is the second event, and applies a move of node 1.
 const STEP_REPLIES: &str = lines!(welcome("tess"), closed);
 
-/// Serves two clients; the second one asks for a close when the first one's move was answered. Returns three answers:
-/// whether the server ended well, and whether the first and the second client got the right replies.
+/// Serves two clients. Both send all their lines at once, before the server accepts. The gate in `is_served` holds the
+/// second connection until the first has had its two replies, so the close is answered after the move. Returns three
+/// results: whether the server ended well, and whether the first and the second client got the right replies.
 fn results_of_two<
     R: Net<Listener = TcpListener, Stream = TcpStream> + Threads + Wait + Sync + AllocGlobal,
 >(rt: &R) -> Result<(bool, bool, bool), Fail> {

@@ -64,9 +64,11 @@ pub fn a_class_is_one_script<S, K, C, R, W>()
         (t : Transcript lab) × (t.lines ≡ s.lines) × (t.replies ≡ s.replies) × (t.end ≡ s.end) }
 {}
 
-/// A class whose journal isn't halted at its end is one script. Nothing is assumed of its replies. `serve_host`,
-/// `resume_class` and the functions that serve given connections return `Ok` only if the journal isn't halted. So each
-/// class that ends without an error is one script.
+/// A class whose journal isn't halted at its end is one script: its lines can be put in such an order that one thread,
+/// which answers them in this order, gives the same events and replies. `a_class_is_one_script` assumes that no reply
+/// is the refusal `journal`. Here that isn't assumed, since it follows from the journal. `serve_host`, `resume_class`
+/// and the functions that serve given connections return `Ok` only if the journal isn't halted. So each class that ends
+/// without an error is one script.
 ///
 /// The first clause says that no reply of a house is the refusal `journal` if its journal isn't halted at the end. The
 /// house may have begun with earlier events. The other clauses say of a house, a class, a resumed class and a server

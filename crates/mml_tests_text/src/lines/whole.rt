@@ -128,9 +128,10 @@ fn sent(alloc: Global) -> Result<[usize; 3], Fail> {
 /// The results of `first_other_put` for writers that fail and for writers that write nothing, and that of `sent`.
 type Written = (Option<usize>, Option<usize>, [usize; 3]);
 
-/// Returns three results. The first is the index of the first row of `PUTS` that is wrong for a writer that fails, and
-/// the second for a writer that writes nothing. Both are `None` if all rows are right. The third is the result of
-/// `sent`.
+/// Returns three results. The first is the index of the first row of `PUTS` that is wrong if the writer fails after its
+/// good writes. The second is that index if the writer takes no bytes after its good writes instead. Both are `None` if
+/// all rows are right. The third is how many bytes an `Outgoing` has written after 512 lines, after one more, and after
+/// a flush (`sent`).
 fn results_of_writes(alloc: Global) -> Result<Written, Fail> {
     let failed = first_other_put(alloc, Refusal::Fails(ErrorKind::Other))?;
     let refused = first_other_put(alloc, Refusal::TakesNothing)?;
