@@ -1,10 +1,9 @@
 -- Places that are marked one after another. The place of an event is its number in the list of events, from 1.
-use Rattle.std.proofs.Common.{◌≡◌, ◌⊎◌, ◌+◌, ◌≤◌, ◌<◌, ◌==◌, nat_lt, nat_le, ◌++◌, [], ◌∷◌, ℕ, List, Bool, true, false, cond, ap, subst, refl, sym, ◌∙◌, suc, zero, get_or, length, take, drop, arith}
-use Rattle.std.proofs.Common.{Option, None, Some, ⊎_elim}
+use Rattle.std.proofs.Common.{◌≡◌, ◌⊎◌, ◌+◌, ◌≤◌, ◌<◌, ◌++◌, [], ◌∷◌, ℕ, List, Bool, true, false, cond, ap, refl, sym, ◌∙◌, suc, zero, get_or, length, take, drop, arith, Option, None, Some, ⊎_elim}
 use Rattle.std.proofs.lemmas.{Bool.Decides.nat_tests, List.take_more, List.drop_more, List.take_all, List.take-append-drop}
 use Rattle.mml_window.specs.Tallies.{times, once_from}
 use Rattle.mml_class.specs.declared.granting.Misgranted.{Misgranted, TheVariants.Early, TheVariants.Twice, TheVariants.Nowhere}
-use Rattle.mml_class.specs.{Granting.IsFound, Granting.ComesAfter, Granting.AreGranted, inside.Marking.has_mark, inside.Marking.marked, inside.Marking.IsMarked, inside.Marking.IsUnmarked}
+use Rattle.mml_class.specs.{Granting.IsFound, Granting.ComesAfter, Granting.AreGranted, inside.Marking.marked, inside.Marking.IsMarked, inside.Marking.IsUnmarked}
 
 -- if the marks are made longer by one place without a mark, no mark changes
 pub unmarked_more : (marks : List Bool) (p : ℕ) → marked (marks ++ false ∷ []) p ≡ marked marks p
@@ -31,16 +30,6 @@ once_early begun count p le = grind (arith, nat_tests)
 once_past : (begun count p : ℕ) → count < p → once_from begun count p ≡ 0
 once_past begun count p lt = grind (arith, nat_tests)
 
-once_there : (begun count p : ℕ) → begun < p → p ≤ count → once_from begun count p ≡ 1
-once_there begun count p lt le = grind (arith, nat_tests)
-
-marked_once : (marks : List Bool) (p : ℕ) → marked marks p ≤ 1
-marked_once marks p = one (has_mark marks p)
-  where
-    one : (b : Bool) → cond {A = ℕ} b 1 0 ≤ 1
-    one true = omega arith
-    one false = omega arith
-
 first_at : (i : ℕ) (ps : List ℕ) (q begun count : ℕ) → i < length ps → q ≡ get_or ps i 0 → AreGranted begun count (take i ps) → ComesAfter begun count ps (take i ps) q
 first_at i ps q begun count in' is fine =
     record { after = drop (i + 1) ps; split = split_at i ps in' ∙ ap (λ x. take i ps ++ x ∷ drop (i + 1) ps) (sym is); granted = fine }
@@ -65,46 +54,10 @@ found_first begun count i whole ps old new (Nowhere q) in' many counted fine ami
 -- if one more place was marked, each mark is still that of a place from begun + 1 to `count`
 pub fine_more : (begun count p : ℕ) (old new : List Bool) → length old ≡ count + 1 → ((q : ℕ) → marked old q ≤ once_from begun count q)
     → IsMarked begun p old new None → (q : ℕ) → marked new q ≤ once_from begun count q
-fine_more begun count p old new many fine m q = one (q == p) refl
-  where
-    one : (b : Bool) → (q == p) ≡ b → marked new q ≤ once_from begun count q
-    one true is = let e : q ≡ p = grind (arith, nat_tests) in
-        omega (arith, marked_once new q, once_there begun count q (omega (arith, e, m.0)) (omega (arith, e, m.1, many)))
-    one false is = let e : times q (p ∷ []) ≡ 0 = ap (λ (b : Bool). cond {A = ℕ} b 1 0) is in omega (arith, m.3 q, fine q, e)
-
--- let q have a mark if it is from begun + 1 to `count`; then the list has q once if it is in this range, and otherwise
--- not at all
-each_counted : (begun count : ℕ) (ps : List ℕ) (marks : List Bool) (q : ℕ) → marked marks q ≡ times q ps → marked marks q ≤ once_from begun count q
-    → (begun < q → q ≤ count → has_mark marks q ≡ true) → times q ps ≡ once_from begun count q
-each_counted begun count ps marks q counted fine has = one (nat_lt begun q) (nat_le q count) refl refl
-  where
-    one : (above below : Bool) → nat_lt begun q ≡ above → nat_le q count ≡ below → times q ps ≡ once_from begun count q
-    one true true a b =
-        let lt : begun < q = grind (arith, nat_tests) in
-        let le : q ≤ count = grind (arith, nat_tests) in
-        let e : marked marks q ≡ 1 = ap (λ (b : Bool). cond {A = ℕ} b 1 0) (has lt le) in
-        omega (arith, e, counted, once_there begun count q lt le)
-    one true false a b = let lt : count < q = grind (arith, nat_tests) in omega (arith, counted, fine, once_past begun count q lt)
-    one false below a b = let le : q ≤ begun = grind (arith, nat_tests) in omega (arith, counted, fine, once_early begun count q le)
-
--- if all places of the list are marked, the first place after `begun` without a mark is the fault; if there is no such
--- place, there is no fault
-found_unmarked : (begun count : ℕ) (ps : List ℕ) (marks : List Bool) (r : Option Misgranted) → length marks ≡ count + 1
-    → ((q : ℕ) → marked marks q ≡ times q ps) → ((q : ℕ) → marked marks q ≤ once_from begun count q) → IsUnmarked begun marks r → IsFound begun count true ps r
-found_unmarked begun count ps marks None many counted fine all = (λ q. omega (arith, counted q, fine q), λ t q. each_counted begun count ps marks q (counted q) (fine q) (λ above below. all q above (omega (arith, many, below))))
-found_unmarked begun count ps marks (Some (Nowhere p)) many counted fine h = (
-  refl,
-  λ q. omega (arith, counted q, fine q),
-  once_there begun count p h.0 (omega (arith, h.1, many)),
-  sym (counted p) ∙ ap (λ (b : Bool). cond {A = ℕ} b 1 0) h.2,
-  λ q less. each_counted begun count ps marks q (counted q) (fine q) (λ above below. h.3 q above less),
-)
-found_unmarked begun count ps marks _ many counted fine h = absurd h
+fine_more begun count p old new many fine m q = grind (arith, nat_tests)
 
 -- `found_unmarked` for a list whose first n places are all its places
 pub found_at_end : (begun count n : ℕ) (whole : Bool) (ps : List ℕ) (marks seen : List Bool) (r : Option Misgranted) → whole ≡ true → length ps ≤ n → seen ≡ marks
     → length marks ≡ count + 1 → ((q : ℕ) → marked marks q ≡ times q (take n ps)) → ((q : ℕ) → marked marks q ≤ once_from begun count q)
     → IsUnmarked begun seen r → IsFound begun count whole ps r
-found_at_end begun count n whole ps marks seen r is_whole le same many counted fine h =
-    subst (λ (b : Bool). IsFound begun count b ps r) (sym is_whole)
-    (found_unmarked begun count ps marks r many (λ q. counted q ∙ ap (times q) (take_all n ps le)) fine (subst (λ (m : List Bool). IsUnmarked begun m r) same h))
+found_at_end begun count n whole ps marks seen r is_whole le same many counted fine h = grind (arith, nat_tests, once_past, once_early, take_all)

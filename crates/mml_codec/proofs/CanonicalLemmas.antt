@@ -1,31 +1,19 @@
 -- The text of a request is one line, and is read as this request.
-use Rattle.std.{proofs.Common.◌≡◌, proofs.Common.◌≢◌, proofs.Common.None, proofs.Common.Some, proofs.Common.Ok, proofs.Common.refl, proofs.Common.◌∙◌, specs.List.All}
+use Rattle.std.proofs.{lemmas.Bool.Decides.nat_tests, Common.arith}
+use Rattle.std.{proofs.Common.◌≡◌, proofs.Common.◌≢◌, proofs.Common.Some, proofs.Common.Ok, proofs.Common.refl, proofs.Common.◌∙◌, specs.List.All}
 use Rattle.mml_codec.specs.{declared.request.Request.Request, Fields.object_of, Canonical.canonical, Canonical.IsWritable, Lines.request_in}
 use Rattle.mml_codec.specs.Requests.{fields_of, request, by_word, hello_of, move_of, asked_at, fault_of}
 use Rattle.mml_codec.proofs.{CompactTextLemmas.IsUtf8-compact_text, OneLineLemmas.compact_text_line, LinesLemmas.value_in-some, LinesLemmas.request_in-some}
 use Rattle.mml_codec.proofs.FieldsLemmas.{IsObject, flat_object_read, read-object_of}
-use Rattle.mml_policy.specs.declared.command.Asked.TheVariants as asked
-use Rattle.mml_policy.specs.declared.command.Command.TheVariants as command
-use Rattle.mml_codec.specs.declared.request.Request.TheVariants as requests
 
 -- the fields of each request are those of an object: ASCII keys in rising byte order, and ASCII words
 IsObject-fields_of : (r : Request) → IsObject (fields_of r)
-IsObject-fields_of (requests.Do (command.Move n (asked.Marriage w) at)) = record { keyed = record { rising = refl; ascii = refl }; ascii = refl }
-IsObject-fields_of (requests.Do (command.Move n _ at)) = record { keyed = record { rising = refl; ascii = refl }; ascii = refl }
-IsObject-fields_of (requests.Do (command.Fault n None m)) = record { keyed = record { rising = refl; ascii = refl }; ascii = refl }
-IsObject-fields_of (requests.Do (command.Fault n _ m)) = record { keyed = record { rising = refl; ascii = refl }; ascii = refl }
-IsObject-fields_of (requests.Do _) = record { keyed = record { rising = refl; ascii = refl }; ascii = refl }
-IsObject-fields_of _ = record { keyed = record { rising = refl; ascii = refl }; ascii = refl }
+IsObject-fields_of r = grind (arith, nat_tests)
 
 -- the object of each request is read as this request
 request-fields_of : (r : Request) → request (object_of (fields_of r)) ≡ Some r
 unfolding request by_word hello_of move_of asked_at fault_of
-request-fields_of (requests.Do (command.Move n (asked.Marriage w) at)) = refl
-request-fields_of (requests.Do (command.Move n _ at)) = refl
-request-fields_of (requests.Do (command.Fault n None m)) = refl
-request-fields_of (requests.Do (command.Fault n _ m)) = refl
-request-fields_of (requests.Do _) = refl
-request-fields_of _ = refl
+request-fields_of r = grind (arith, nat_tests)
 
 -- the text of a request has no newline
 pub canonical_line : (r : Request) → IsWritable r → All (λ b. b ≢ 10) (canonical r)

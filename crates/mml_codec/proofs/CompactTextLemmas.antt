@@ -1,6 +1,7 @@
 -- If the numbers of a value are integers from 0 to 2 ^ 64 - 1, and its strings are UTF-8, its text is read as this
 -- value.
-use Rattle.std.proofs.Common.{◌≡◌, ℕ, ◌^◌, ◌<◌, ◌≤◌, List, [], ◌∷◌, ◌++◌, Bool, true, false, Some, IsUtf8, refl, sym, ap, ◌∙◌, append-nil}
+use Rattle.std.proofs.lemmas.Bool.Decides.{nat_tests}
+use Rattle.std.proofs.Common.{◌≡◌, ℕ, ◌^◌, ◌<◌, ◌≤◌, List, [], ◌∷◌, ◌++◌, Bool, true, false, Some, IsUtf8, refl, sym, ap, ◌∙◌, append-nil, arith}
 use Rattle.std.{proofs.lemmas.Str.IsUtf8-append, proofs.lemmas.Str.IsUtf8-nil, proofs.lemmas.Str.IsUtf8-from_ascii, proofs.lemmas.Fmt.IsAscii-decimal, specs.Option.option_and_then}
 use Rattle.json.specs.Lex.{tokens}
 use Rattle.json.proofs.Printed.{Utf8.IsUtf8-are_ascii, Utf8.IsUtf8-quoted, Utf8.IsUtf8-boolean, Decimals.IsNumber-decimal, Tokens.tokens-print, Trees.value-json_tokens, Trees.ArePrintable-json_tokens}
@@ -52,8 +53,7 @@ byte : (x : ℕ) (xs : List ℕ) → IsUtf8 (x ∷ []) → IsUtf8 xs → IsUtf8 
 byte x xs u v = IsUtf8-append (x ∷ []) xs u v
 
 comma : (later : Bool) → IsUtf8 (comma_if later)
-comma true = IsUtf8-are_ascii _ refl
-comma false = IsUtf8-nil
+comma later = grind (arith, nat_tests, IsUtf8-are_ascii, IsUtf8-nil)
 
 mutual
   pub IsUtf8-compact_text : (d : Data) → HasText d → IsUtf8 (compact_text d)

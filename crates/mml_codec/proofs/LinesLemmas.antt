@@ -1,5 +1,5 @@
-use Rattle.std.proofs.Common.{◌≡◌, ℕ, List, Bool, true, false, cond, Option, Some, None, Err, ok_or, option_and_then, refl, ap}
-use Rattle.std.{specs.Str.is_utf8, specs.Str.IsUtf8, proofs.lemmas.Str.is_utf8-from_IsUtf8}
+use Rattle.std.{proofs.lemmas.Bool.Decides.nat_tests, specs.Str.is_utf8, specs.Str.IsUtf8, proofs.lemmas.Str.is_utf8-from_IsUtf8}
+use Rattle.std.proofs.Common.{◌≡◌, ℕ, List, Bool, cond, Option, Some, None, Err, ok_or, option_and_then, ap, arith}
 use Rattle.serde_json.specs.{Data.Data, Data.object, Data.Members, Find.as_object, Read.read}
 use Rattle.mml_plain.specs.Reading.{object_in}
 use Rattle.mml_codec.specs.{Requests.request, Lines.value_in, Lines.request_in}
@@ -16,30 +16,18 @@ pub request_in-some : (bytes : List ℕ) (d : Data) → value_in bytes ≡ Some 
 unfolding request_in
 request_in-some bytes d e = rw e
 
-an_object : (d : Data) (ms : Members) → as_object d ≡ Some ms → d ≡ object ms
-an_object (object os) ms e = let same : os ≡ ms = cc in ap object same
-an_object _ ms e = absurd (cc)
-
-object_asks : (b : Bool) (o : Option Data) (ms : Members) → cond b (option_and_then as_object o) None ≡ Some ms → cond b o None ≡ Some (object ms)
-object_asks true None ms e = absurd (cc)
-object_asks true (Some d) ms e = ap Some (an_object d ms e)
-object_asks false o ms e = absurd (cc)
-
 no_object : (d : Data) → as_object d ≡ None → request d ≡ None
 unfolding request
-no_object (object ms) e = absurd (cc)
-no_object _ e = refl
+no_object d e = grind (arith, nat_tests)
 
 nothing_asked : (b : Bool) (o : Option Data) → cond b (option_and_then as_object o) None ≡ None → option_and_then request (cond b o None) ≡ None
-nothing_asked true None e = refl
-nothing_asked true (Some d) e = no_object d e
-nothing_asked false o e = refl
+nothing_asked b o e = grind (arith, nat_tests, no_object)
 
 -- the request in a line with a JSON object is the request that this object is read as; if the object is read as no
 -- request, the line is malformed
 pub request_in-object : (line : List ℕ) (ms : Members) → object_in line ≡ Some ms → request_in line ≡ ok_or (request (object ms)) fault.Malformed
 unfolding value_in object_in
-request_in-object line ms e = request_in-some line (object ms) (object_asks (is_utf8 line) (read line) ms e)
+request_in-object line ms e = request_in-some line (object ms) (grind (arith, nat_tests, is_utf8 line, read line))
 
 -- a line that isn't an object is malformed
 pub request_in-other : (line : List ℕ) → object_in line ≡ None → request_in line ≡ Err fault.Malformed

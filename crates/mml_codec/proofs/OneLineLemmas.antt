@@ -60,12 +60,10 @@ decimal_line n h =
     (λ n ds big line. join ds ((48 + n % 10) ∷ []) line (then (48 + n % 10) [] (λ e. omega arith) none)) n h
 
 comma : (later : Bool) → IsOneLine (comma_if later)
-comma true = tested (44 ∷ []) refl
-comma false = none
+comma later = grind (arith, nat_tests, tested, none)
 
 truth : (b : Bool) → IsOneLine (compact_text (boolean b))
-truth true = tested (compact_text (boolean true)) refl
-truth false = tested (compact_text (boolean false)) refl
+truth b = grind (arith, nat_tests, tested)
 
 mutual
   pub compact_text_line : (d : Data) → HasText d → All (λ b. b ≢ 10) (compact_text d)

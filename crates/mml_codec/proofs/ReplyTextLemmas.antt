@@ -1,49 +1,38 @@
 -- The text of a reply is the text of its JSON value. A fact is the value of a key in a reply.
 use Rattle.std.proofs.lemmas.{Bool.Decides.nat_tests, Bool.and_from, List.Elements.All-head, List.Elements.All-tail}
-use Rattle.std.proofs.Common.{◌≡◌, ◌≢◌, ℕ, ◌≤◌, List, [], ◌∷◌, ◌++◌, Bool, true, false, Option, None, Some, All, map, length, codes, refl, sym, ap, ◌∙◌, arith, append_assoc}
+use Rattle.std.proofs.Common.{◌≡◌, ℕ, List, [], ◌∷◌, ◌++◌, Bool, true, false, Option, All, map, codes, refl, sym, ap, ◌∙◌, arith, append_assoc}
 use Rattle.std.specs.{Prelude.flat_map, List.AllByRecursion}
 use Rattle.json.specs.Print.{escape_byte, escape}
 use Rattle.serde_json.specs.{Data.Data, Data.boolean, Written.compact_text, Written.items_text, Written.members_text, Written.comma_if}
-use Rattle.mml_plain.specs.Compact.{is_bare_byte, is_bare}
+use Rattle.mml_plain.specs.Compact.{is_bare}
 use Rattle.mml_plain.proofs.CompactLemmas.{bare_escape}
 use Rattle.mml_rules.specs.declared.{regs.Regs.Regs, rule.Kind.Kind}
 use Rattle.mml_lab.specs.RosterMeaning.{IsNameByte}
 use Rattle.mml_stable.specs.declared.open_link.OpenLink.{OpenLink}
 use Rattle.mml_codec.specs.Objects.{items_with, members_with}
 use Rattle.mml_ids.specs.Pieces.{truth_text}
-use Rattle.mml_codec.specs.Facts.{Fact, Fields, node_text, pointer_text, kind_text, kind_or_null, separated, members, near_text, pair_text, privileged_text, open_link_text, list_then, fact_then}
-use Rattle.mml_codec.specs.Facts.{fields_after, node_value, pointer_value, kind_value, kind_or_null_value, near_value, pair_value, privileged_value, open_link_value, fact_value, keys_of}
-use Rattle.mml_rules.specs.declared.rule.Kind.TheVariants as kind
+use Rattle.mml_codec.specs.Facts.{Fact, Fields, node_text, pointer_text, kind_text, separated, near_text, pair_text, privileged_text, open_link_text, list_then, fact_then}
+use Rattle.mml_codec.specs.Facts.{fields_after, pointer_value, kind_value, near_value, pair_value, privileged_value, open_link_value, fact_value, keys_of}
 use Rattle.mml_codec.specs.Facts as fact
 
 -- ---- words without escapes
 
-bare_byte : (b : ℕ) → 32 ≤ b → b ≤ 122 → b ≢ 34 → b ≢ 92 → is_bare_byte b ≡ true
-bare_byte b low high quote slash = grind (arith, nat_tests)
-
 -- a name has no byte that is escaped
 pub name_bare : (bs : List ℕ) → All IsNameByte bs → is_bare bs ≡ true
 name_bare [] all = refl
-name_bare (b ∷ bs) all = grind (arith, nat_tests, All-head, bare_byte, and_from, All-tail, name_bare bs (All-tail IsNameByte b bs all))
+name_bare (b ∷ bs) all = grind (arith, nat_tests, All-head, and_from, All-tail, name_bare bs (All-tail IsNameByte b bs all))
 
 -- ---- the texts of one item
 
 truth_is : (b : Bool) → truth_text b ≡ compact_text (boolean b)
-truth_is true = refl
-truth_is false = refl
+truth_is b = grind (arith, nat_tests)
 
 pointer_is : (ids : List ℕ) (p : Option ℕ) → pointer_text ids p ≡ compact_text (pointer_value ids p)
-pointer_is ids None = refl
-pointer_is ids (Some i) = refl
+pointer_is ids p = grind (arith, nat_tests)
 
 kind_is : (k : Kind) → kind_text k ≡ compact_text (kind_value k)
 unfolding escape_byte
-kind_is kind.Update = refl
-kind_is _ = refl
-
-kind_or_null_is : (k : Option Kind) → kind_or_null k ≡ compact_text (kind_or_null_value k)
-kind_or_null_is None = refl
-kind_or_null_is (Some k) = kind_is k
+kind_is k = grind (arith, nat_tests)
 
 near_is : (ids : List ℕ) (n : ℕ × Regs) → near_text ids n ≡ compact_text (near_value ids n)
 unfolding near_text escape_byte
@@ -98,18 +87,7 @@ quoted_is : (w rest : List ℕ) → is_bare w ≡ true → codes "\"" ++ (w ++ (
 quoted_is w rest h = ap (λ t. 34 ∷ t) (sym (append_assoc w (34 ∷ []) rest) ∙ ap (λ t. (t ++ 34 ∷ []) ++ rest) (sym (bare_escape w h)))
 
 fact_is : (ids : List ℕ) (f : Fact) (rest : List ℕ) → IsPlainFact f → fact_then ids f rest ≡ compact_text (fact_value ids f) ++ rest
-fact_is ids (fact.word w) rest h = quoted_is w rest h
-fact_is ids (fact.truth b) rest h = ap (λ t. t ++ rest) (truth_is b)
-fact_is ids (fact.pointer p) rest h = ap (λ t. t ++ rest) (pointer_is ids p)
-fact_is ids (fact.rule k) rest h = ap (λ t. t ++ rest) (kind_is k)
-fact_is ids (fact.rule_or_null k) rest h = ap (λ t. t ++ rest) (kind_or_null_is k)
-fact_is ids (fact.moved s) rest h = list_is (node_text ids) (node_value ids) (λ i. refl) (members (length ids) s) rest
-fact_is ids (fact.nodes is) rest h = list_is (node_text ids) (node_value ids) (λ i. refl) is rest
-fact_is ids (fact.near ns) rest h = list_is (near_text ids) (near_value ids) (near_is ids) ns rest
-fact_is ids (fact.pairs ps) rest h = list_is (pair_text ids) (pair_value ids) (pair_is ids) ps rest
-fact_is ids (fact.privileged ns) rest h = list_is (privileged_text ids) (privileged_value ids) (privileged_is ids) ns rest
-fact_is ids (fact.open_links ls) rest h = list_is (open_link_text ids) (open_link_value ids) (open_link_is ids) ls rest
-fact_is ids _ rest h = refl
+fact_is ids f rest h = grind (arith, nat_tests, quoted_is, truth_is, pointer_is, kind_is, list_is, near_is, pair_is, privileged_is, open_link_is)
 
 -- if no byte of fields is escaped, they have the same text as their JSON members
 pub fields_are : (ids : List ℕ) (later : Bool) (fs : Fields) → ArePlain fs

@@ -9,24 +9,20 @@ use Rattle.mml_plain.specs.Compact.{is_bare}
 use Rattle.mml_plain.proofs.CompactLemmas.{bare_ascii}
 use Rattle.mml_ids.specs.Ids.{IsTable}
 use Rattle.mml_rules.specs.declared.{regs.Regs.Regs, rule.Kind.Kind}
-use Rattle.mml_lab.specs.{declared.who.Who.Who, Rosters.RosterValue, Rosters.IsRoster, Rosters.IsPrincipal, Rosters.name_of}
+use Rattle.mml_lab.specs.{Rosters.RosterValue, Rosters.IsRoster}
 use Rattle.mml_lab.proofs.FormLemmas.{name-means}
 use Rattle.mml_policy.specs.About.{IsNear}
 use Rattle.mml_board.specs.{declared.denial.Denial.Denial, Denials.clause_of, Denials.text_of}
 use Rattle.mml_stable.specs.{Reports.IsPairOf, Reports.IsOpenLinkOf, declared.open_link.OpenLink.OpenLink}
-use Rattle.mml_codec.specs.{declared.reply.Refused.Refused, declared.reply.Reply.Reply, Objects.members_with}
+use Rattle.mml_codec.specs.{declared.reply.Reply.Reply, Objects.members_with, Replies.fields_of, Replies.text, Replies.IsAbout}
 use Rattle.mml_codec.specs.Facts.{Fact, Fields, members, object_text, node_value, pointer_value, kind_value, kind_or_null_value, near_keys, near_value, pair_value, privileged_value, open_link_value}
 use Rattle.mml_codec.specs.Facts.{fact_value, keys_of, FitsCount, HaveFittingCounts}
-use Rattle.mml_codec.specs.Replies.{current_number, number_first, told_fields, refusal_name, fields_of, text, IsAbout}
 use Rattle.mml_codec.specs.ReplyValues.{reply_value, AreWritableCounts, has_rising_keys, members_rise, comes_first}
-use Rattle.mml_codec.proofs.{OneLineLemmas.compact_text_line, ReplyTextLemmas.name_bare, ReplyTextLemmas.IsPlainFact, ReplyTextLemmas.ArePlain, ReplyTextLemmas.fields_are}
+use Rattle.mml_codec.proofs.{OneLineLemmas.compact_text_line, ReplyTextLemmas.name_bare, ReplyTextLemmas.ArePlain, ReplyTextLemmas.fields_are}
 use Rattle.mml_codec.proofs.ReadBackLemmas.{IsReadable, AreReadable, IsKeyed, null_read, truth_read, count_read, word_read, items_read, array_read, object_read, read_value, items_rise}
 use Rattle.std.specs.FinSet as set
 use Rattle.mml_rules.specs.declared.rule.Kind.TheVariants as kind
-use Rattle.mml_board.specs.declared.denial.Denial.TheVariants as denial
 use Rattle.mml_board.specs.Denials as denials
-use Rattle.mml_codec.specs.declared.reply.Refused.TheVariants as refused
-use Rattle.mml_codec.specs.declared.reply.Reply.TheVariants as replies
 use Rattle.mml_codec.specs.Facts as fact
 
 -- ---- each kind of fact
@@ -63,10 +59,6 @@ IsFactOf ids _ = Unit {0}
 
 abbrev AreFactsOf : List ℕ → Fields → Type 0
 AreFactsOf ids fs = AllByRecursion (λ f. IsFactOf ids f.1) fs
-
-plain_fact : (ids : List ℕ) (f : Fact) → IsFactOf ids f → IsPlainFact f
-plain_fact ids (fact.word w) h = h
-plain_fact ids _ h = tt
 
 module _ (ids : List ℕ) (table : IsTable ids) where
   node_read : (n i : ℕ) → i < length ids → IsReadable n (node_value ids i)
@@ -134,82 +126,39 @@ record HasKeys (ids : List ℕ) (fs : Fields) : Type 0 where
 
 all_plain : (ids : List ℕ) (fs : Fields) → has_plain_keys fs ≡ true → AreFactsOf ids fs → ArePlain fs
 all_plain ids [] keys h = tt
-all_plain ids (f ∷ fs) keys h = let parts = and_parts _ _ keys in ((parts.0, plain_fact ids f.1 h.0), all_plain ids fs parts.1 h.1)
-
-kind_or_null_rises : (k : Option Kind) → has_rising_keys (kind_or_null_value k) ≡ true
-kind_or_null_rises None = refl
-kind_or_null_rises (Some k) = refl
+all_plain ids (f ∷ fs) keys h = let parts = and_parts _ _ keys in ((parts.0, grind (arith, nat_tests)), all_plain ids fs parts.1 h.1)
 
 pointer_rises : (ids : List ℕ) (p : Option ℕ) → has_rising_keys (pointer_value ids p) ≡ true
-pointer_rises ids None = refl
-pointer_rises ids (Some j) = refl
+pointer_rises ids p = grind (arith, nat_tests)
 
 near_rises : (ids : List ℕ) (n : ℕ × Regs) → has_rising_keys (near_value ids n) ≡ true
 near_rises ids n = rw (pointer_rises ids n.1.p) refl
 
-fact_rises : (ids : List ℕ) (f : Fact) → has_rising_keys (fact_value ids f) ≡ true
-fact_rises ids (fact.pointer p) = pointer_rises ids p
-fact_rises ids (fact.rule_or_null k) = kind_or_null_rises k
-fact_rises ids (fact.moved s) = items_rise (node_value ids) (λ i. refl) (members (length ids) s)
-fact_rises ids (fact.nodes is) = items_rise (node_value ids) (λ i. refl) is
-fact_rises ids (fact.near ns) = items_rise (near_value ids) (near_rises ids) ns
-fact_rises ids (fact.pairs ps) = items_rise (pair_value ids) (λ p. refl) ps
-fact_rises ids (fact.privileged ns) = items_rise (privileged_value ids) (λ n. refl) ns
-fact_rises ids (fact.open_links ls) = items_rise (open_link_value ids) (λ l. refl) ls
-fact_rises ids _ = refl
-
 same_first : (ids : List ℕ) (k : List ℕ) (fs : Fields) → comes_before k fs ≡ true → comes_first k (members_with (keys_of ids fs)) ≡ true
-same_first ids k [] h = refl
-same_first ids k (f ∷ fs) h = h
+same_first ids k fs h = grind (arith, nat_tests)
 
 fields_rise : (ids : List ℕ) (fs : Fields) → are_in_order fs ≡ true → members_rise (members_with (keys_of ids fs)) ≡ true
 fields_rise ids [] h = refl
 fields_rise ids (f ∷ fs) h =
     let parts = and_parts _ _ h in
-    and_from _ _ (same_first ids f.0 fs parts.0) (and_from _ _ (fact_rises ids f.1) (fields_rise ids fs parts.1))
+    and_from _ _ (same_first ids f.0 fs parts.0) (and_from _ _ (grind (arith, nat_tests, pointer_rises, items_rise, near_rises)) (fields_rise ids fs parts.1))
 
 -- ---- the keys of each reply
 
-deny_keys : (ids : List ℕ) (o : Option ℕ) (c : ℕ) (name said : List ℕ) → HasKeys ids (number_first o (told_fields c name said))
-deny_keys ids None c name said = record { keyed = record { rising = refl; ascii = refl }; plain = refl; order = refl }
-deny_keys ids (Some at) c name said = record { keyed = record { rising = refl; ascii = refl }; plain = refl; order = refl }
-
 has_keys : (ids : List ℕ) (r : RosterValue) (q : Reply) → HasKeys ids (fields_of r q)
-has_keys ids r (replies.Deny d) = deny_keys ids (current_number d) (clause_of d) (denials.denial_name d) (text_of d)
-has_keys ids r _ = record { keyed = record { rising = refl; ascii = refl }; plain = refl; order = refl }
+has_keys ids r q = grind (arith, nat_tests)
 
 -- whether the clause of a denial is below 128, and no byte of its name and its text is escaped
 abbrev has_plain_words : Denial → Bool
 has_plain_words d = nat_lt (clause_of d) 128 && (is_bare (denials.denial_name d) && is_bare (text_of d))
 
-plain_words : (d : Denial) → has_plain_words d ≡ true
-plain_words denial.NotGreeted = refl
-plain_words _ = refl
-
-plain_refusal : (q : Refused) → is_bare (refusal_name q) ≡ true
-plain_refusal refused.Malformed = refl
-plain_refusal _ = refl
-
-plain_name : (r : RosterValue) (who : Who) → IsRoster r → IsPrincipal r who → is_bare (name_of r who) ≡ true
-plain_name r who roster is = grind (arith, nat_tests, name_bare, name-means, and_parts)
-
 module _ (ids : List ℕ) (r : RosterValue) (roster : IsRoster r) where
-  number_facts : (o : Option ℕ) (fs : Fields) → AreFactsOf ids fs → AreFactsOf ids (number_first o fs)
-  number_facts None fs h = h
-  number_facts (Some at) fs h = (tt, h)
-
-  deny_facts : (d : Denial) → AreFactsOf ids (fields_of r (replies.Deny d))
-  deny_facts d = grind (arith, nat_tests, and_parts, is_bare, plain_words, number_facts)
-
-  facts_of : (q : Reply) → IsAbout ids r q → AreFactsOf ids (fields_of r q)
-  facts_of q about = grind (arith, nat_tests, plain_name, deny_facts, plain_refusal)
-
   pub reply_text : (q : Reply) → IsAbout ids r q → text ids r q ≡ compact_text (reply_value ids r q)
   unfolding object_text
-  reply_text q about = ap (λ t. 123 ∷ t) (fields_are ids false (fields_of r q) (all_plain ids (fields_of r q) (has_keys ids r q).plain (facts_of q about)))
+  reply_text q about = ap (λ t. 123 ∷ t) (fields_are ids false (fields_of r q) (all_plain ids (fields_of r q) (has_keys ids r q).plain (grind (arith, nat_tests, name_bare, name-means, and_parts, is_bare))))
 
   reply_read : (table : IsTable ids) (q : Reply) → IsAbout ids r q → AreWritableCounts r q → IsReadable 3 (reply_value ids r q)
-  reply_read table q about h = object_read 2 (keys_of ids (fields_of r q)) (has_keys ids r q).keyed (facts_read ids table (fields_of r q) (facts_of q about) h)
+  reply_read table q about h = object_read 2 (keys_of ids (fields_of r q)) (has_keys ids r q).keyed (facts_read ids table (fields_of r q) (grind (arith, nat_tests, name_bare, name-means, and_parts, is_bare)) h)
 
   pub reply_line_is : (table : IsTable ids) (q : Reply) → IsAbout ids r q → AreWritableCounts r q → All (λ b. b ≢ 10) (text ids r q)
   reply_line_is table q about h = rw (reply_text q about) (compact_text_line (reply_value ids r q) (reply_read table q about h).text)

@@ -1,13 +1,12 @@
 -- A JSON value is read as a request exactly if it has the fields of this request.
 use Rattle.std.proofs.lemmas.{Bool.Decides.nat_tests, Option.same_Some, Option.option_and_then_some, Slice.Eq.bytes_eq-Decides}
-use Rattle.std.proofs.Common.{◌≡◌, ℕ, List, [], ◌∷◌, Bool, true, false, cond, codes, bytes_eq, Option, None, Some, option_map, refl, ap, ◌∙◌, subst, arith}
-use Rattle.serde_json.specs.{Data.Data, Data.number, Find.get, Find.as_number, Find.as_u64}
-use Rattle.mml_plain.specs.LookUps.{◌>>=◌, text_at, number_at, truth_at, register_at, as_register}
+use Rattle.std.proofs.Common.{◌≡◌, ℕ, List, [], ◌∷◌, Bool, true, cond, codes, bytes_eq, Option, Some, option_map, refl, ap, ◌∙◌, subst, arith}
+use Rattle.serde_json.specs.{Data.Data, Data.number}
+use Rattle.mml_plain.specs.LookUps.{◌>>=◌, text_at, number_at, truth_at, register_at}
 use Rattle.mml_policy.specs.declared.command.{Asked.Asked, Command.Command}
 use Rattle.mml_codec.specs.{declared.request.Request.Request, Fields.Has, Fields.HasEach}
 use Rattle.mml_codec.specs.Requests.{rule_word, partner_fields, register, asks, fields_of, asked_at, hello_of, node_of, ends_of, move_of, fault_of, by_word, request}
 use Rattle.mml_board.specs.Vocabulary as verb
-use Rattle.mml_policy.specs.declared.command.Asked.TheVariants as asked
 use Rattle.mml_policy.specs.declared.command.Command.TheVariants as command
 use Rattle.mml_codec.specs.declared.request.Request.TheVariants as requests
 use Rattle.mml_codec.specs.Fields as field
@@ -15,16 +14,7 @@ use Rattle.mml_codec.specs.Fields as field
 -- ---- registers
 
 held : (o : Option ℕ) (n : ℕ) → option_map Some o ≡ Some (Some n) → o ≡ Some n
-held None n h = absurd cc
-held (Some m) n h = same_Some (Some m) (Some n) h
-
-number_held : (o : Option Data) (n : ℕ) → (o >>= as_register) ≡ Some (Some n) → (o >>= λ v. as_number v >>= as_u64) ≡ Some n
-number_held (Some (number k)) n h = held (as_u64 k) n h
-number_held _ n h = absurd cc
-
-register_held : (o : Option Data) (n : ℕ) → (o >>= λ v. as_number v >>= as_u64) ≡ Some n → (o >>= as_register) ≡ Some (Some n)
-register_held (Some (number k)) n h = ap (option_map Some) h
-register_held _ n h = absurd cc
+held o n h = grind (arith, nat_tests, same_Some)
 
 -- ---- a value that is read as a request has the request's fields
 
@@ -35,8 +25,7 @@ only : (d : Data) (q r : Request) → Some q ≡ Some r → Asks d q → Asks d 
 only d q r same has = subst (Asks d) (same_Some q r same) has
 
 which : {A P : Type 0} (b : Bool) (x y z : A) → cond b x y ≡ z → (b ≡ true → x ≡ z → P) → (y ≡ z → P) → P
-which true x y z h here there = here refl h
-which false x y z h here there = there h
+which b x y z h here there = grind (arith, nat_tests)
 
 abbrev HasRule : Data → Asked → Type 0
 HasRule d rule = (text_at (codes "rule") d ≡ Some (rule_word rule)) × HasEach d (partner_fields rule)
@@ -44,10 +33,6 @@ HasRule d rule = (text_at (codes "rule") d ≡ Some (rule_word rule)) × HasEach
 rule_there : (d : Data) (rule : Asked) → asked_at d ≡ Some rule → HasRule d rule
 unfolding asked_at
 rule_there d rule h = grind (arith, nat_tests, option_and_then_some, bytes_eq-Decides, which, same_Some)
-
-register_there : (d : Data) (p : Option ℕ) → register_at (codes "p") d ≡ Some p → Has d (codes "p", register p)
-register_there d None h = h
-register_there d (Some n) h = number_held (get (codes "p") d) n h
 
 hello_there : (d : Data) (r : Request) → Has d (asks verb.hello) → hello_of d ≡ Some r → Asks d r
 unfolding hello_of
@@ -70,7 +55,7 @@ fault_there : (d : Data) (r : Request) → Has d (asks verb.fault.asked) → fau
 unfolding fault_of
 fault_there d r word h = option_and_then_some _ (number_at (codes "node") d) r h (λ n is more.
     option_and_then_some _ (register_at (codes "p") d) r more (λ p points more'. option_and_then_some _ (truth_at (codes "m") d) r more' (λ m married last.
-    only d (requests.Do (command.Fault n p m)) r last (word, (married, (is, (register_there d p points, tt)))))))
+    only d (requests.Do (command.Fault n p m)) r last (word, (married, (is, (grind (arith, nat_tests, held), tt)))))))
 
 pub asked_there : (d : Data) (r : Request) → request d ≡ Some r → HasEach d (fields_of r)
 unfolding request by_word
@@ -93,12 +78,10 @@ asked_there d r h = option_and_then_some _ (text_at (codes "do") d) r h (λ w at
 
 rule_asked : (d : Data) (rule : Asked) → HasRule d rule → asked_at d ≡ Some rule
 unfolding asked_at
-rule_asked d (asked.Marriage j) h = rw (h.0, h.1.0)
-rule_asked d _ h = rw (h.0)
+rule_asked d rule h = grind (arith, nat_tests)
 
 register_named : (d : Data) (p : Option ℕ) → Has d (codes "p", register p) → register_at (codes "p") d ≡ Some p
-register_named d None h = h
-register_named d (Some n) h = register_held (get (codes "p") d) n h
+register_named d p h = grind (arith, nat_tests)
 
 pub there_asked : (d : Data) (r : Request) → HasEach d (fields_of r) → request d ≡ Some r
 unfolding request by_word hello_of move_of fault_of

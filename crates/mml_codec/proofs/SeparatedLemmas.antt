@@ -17,8 +17,7 @@ comma_after-more [] x = refl
 comma_after-more (y ∷ ys) x = refl
 
 separated-more : (xs : List (List ℕ)) (x : List ℕ) → separated (xs ++ x ∷ []) ≡ separated xs ++ (comma_after xs ++ x)
-separated-more [] x = append-nil x
-separated-more (y ∷ ys) x = grind (arith, nat_tests, flat_map-append, append-nil, append_assoc)
+separated-more xs x = grind (arith, nat_tests, append-nil, flat_map-append, append_assoc)
 
 -- the identifiers of the set's ranks below n, as texts
 abbrev pub texts : List ℕ → FinSet nat_cmp → ℕ → List (List ℕ)

@@ -40,9 +40,6 @@ tells linked registers chosen (event.Close ∷ es) n =
     (replicate (length registers) None) es (n - chosen_among registers chosen))
 tells linked registers chosen (_ ∷ es) n = false
 
-none_is : (o : Option Rule) → is_none o ≡ true → o ≡ None
-none_is o h = grind (arith, nat_tests, false≢true)
-
 -- if the test above is true of a list, the list is legal in each world with these links, registers and choices, and
 -- applies n moves
 sound : (r : RosterValue) (w : World) (es : List Event) (n : ℕ) → ((i : ℕ) → i < size w → owns r (who.Student 0) i ≡ true)
@@ -57,7 +54,7 @@ sound r w (event.Grant s i rule ∷ es) n owned t =
     let free = and_parts (is_none (chosen_at w.chosen i)) (guard (configuration w) i rule) z.1 in
     let there = ltb-true i (size w) z.0 in
     let owner : owns r (who.Student s) i ≡ true = ap (λ k. owns r (who.Student k) i) (eqb-true s 0 x.0) ∙ owned i there in
-    let possible = grant_possible w s i rule there (none_is (chosen_at w.chosen i) free.0) free.1 in
+    let possible = grant_possible w s i rule there (grind (arith, nat_tests, false≢true, chosen_at w.chosen i)) free.1 in
     let rest = sound r (after w (event.Grant s i rule)) es n (λ j lt. owned j (omega (arith, size-after w (event.Grant s i rule), lt))) y.1 in
     let last = rest.1 in
     (and_from _ _ (owned_legal r w (event.Grant s i rule) owner possible) rest.0, omega (arith, last))

@@ -57,14 +57,8 @@ marriages_pay n u le =
 
 pub courtships_even : (k : ℕ) → most_courtships (2 * k) ≡ k * k
 courtships_even zero = refl
-courtships_even (suc k) =
-    let rest = courtships_even k in
-    let e : suc (suc (2 * k)) ≡ 2 * suc k = omega arith in
-    grind (arith, nat_tests)
+courtships_even (suc k) = let rest = courtships_even k in let e : suc (suc (2 * k)) ≡ 2 * suc k = omega arith in grind (arith, nat_tests)
 
 pub courtships_odd : (k : ℕ) → most_courtships (2 * k + 1) ≡ k * k + k
 courtships_odd zero = refl
-courtships_odd (suc k) =
-    let rest = courtships_odd k in
-    let e : suc (suc (2 * k + 1)) ≡ 2 * suc k + 1 = omega arith in
-    grind (arith, nat_tests)
+courtships_odd (suc k) = let rest = courtships_odd k in let e : suc (suc (2 * k + 1)) ≡ 2 * suc k + 1 = omega arith in grind (arith, nat_tests)

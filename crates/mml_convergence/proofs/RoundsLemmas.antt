@@ -6,8 +6,7 @@ use Rattle.std.specs.List.{list_all}
 use Rattle.std.proofs.lemmas.{List.append-nil, Bool.or_right, Bool.both_ways, Bool.false_from_ne_true, Bool.cases_lt, Bool.cases_order, Bool.Decides.nat_tests}
 use Rattle.mml_ids.specs.Search.{some_below}
 use Rattle.mml_ids.proofs.SearchLemmas.{some_below-find, some_below-none}
-use Rattle.mml_rules.specs.{declared.rule.Rule.Rule, Rules.is_married, Rules.is_privileged, Rules.guard, Matching.IsStable, Matching.IsMaximal}
-use Rattle.mml_rules.specs.Configuration.{Configuration, IsLawful}
+use Rattle.mml_rules.specs.{declared.rule.Rule.Rule, Rules.is_married, Rules.is_privileged, Rules.guard, Matching.IsStable, Matching.IsMaximal, Configuration.Configuration, Configuration.IsLawful}
 use Rattle.mml_rules.proofs.{RulesLemmas.married-null, RulesLemmas.married-at, MeaningLemmas.privileged-means}
 use Rattle.mml_lab.specs.Rosters.{RosterValue}
 use Rattle.mml_board.specs.{declared.event.Event.Event, World.World, World.size, World.configuration, World.IsWorld, Events.after, Runs.is_legal_list, Runs.world_of}
@@ -24,10 +23,7 @@ use Rattle.mml_convergence.proofs.ServedLemmas.{IsRun, run_parts, run_end, stabl
 -- ---- no node is privileged, or two linked nodes aren't married
 
 open_link : (c : Configuration) (i j : ℕ) → IsLawful c → c.linked i j ≡ true → is_married c i ≡ false → is_married c j ≡ false → (a : ℕ) × (b : ℕ) × IsOpen a b c
-open_link c i j l linked ei ej = elim (cases_order i j) [
-  | inl same ↦ absurd (apart c i j l linked same)
-  | inr o ↦ grind (arith, nat_tests)
-]
+open_link c i j l linked ei ej = elim (cases_order i j) [ inl same ↦ absurd (apart c i j l linked same) | inr o ↦ grind (arith, nat_tests) ]
 
 stable_or_open : (c : Configuration) → IsLawful c → IsHopeful c → IsStable c ⊎ ((a : ℕ) × (b : ℕ) × IsOpen a b c)
 stable_or_open c l k = go (some_below c.size (is_privileged c)) refl

@@ -3,8 +3,7 @@ use Rattle.std.proofs.Common.{◌≡◌, ◌++◌, ◌∷◌, ◌∙◌, ℕ, Li
 use mathlib.Core.List.{IsPrefix}
 use Rattle.mml_lab.specs.{declared.who.Who.Who, Labs.LabValue}
 use Rattle.mml_board.specs.{declared.event.Event.Event, Events.after, Lists.world_in}
-use Rattle.mml_policy.specs.{declared.command.Command.Command, Rulings.event_of}
-use Rattle.mml_policy.specs.declared.ruling.Ruling.{Ruling, TheVariants.Granted}
+use Rattle.mml_policy.specs.{declared.command.Command.Command, Rulings.event_of, declared.ruling.Ruling.Ruling, declared.ruling.Ruling.TheVariants.Granted}
 use Rattle.mml_codec.specs.{declared.reply.Reply.Reply, Lines.request_in, Replies.place_in, Rulings.reply_of_done}
 use Rattle.mml_codec.proofs.RulingsLemmas.{place_of_done}
 use Rattle.mml_engine.specs.{Named.NamesLast, Told.Told, Told.Plainly, Told.entered, Told.ruling_at, Told.told_by, Turns.Turn}

@@ -1,32 +1,24 @@
 -- The effect of a turn, for any engine. A turn is a line with its reply, and with the states before and after the line.
 -- The place of an event is its number in the list of events, from 1.
-use Rattle.std.proofs.Common.{◌≡◌, ◌⊎◌, ◌∙◌, ℕ, true, List, Option, Some, None, Result, Ok, Err, refl, ap, inl, inr}
-use Rattle.mml_lab.specs.{declared.who.Who.Who, Rosters.RosterValue, Rosters.principal}
+use Rattle.std.proofs.lemmas.Bool.Decides.{nat_tests}
+use Rattle.std.proofs.Common.{◌≡◌, ◌⊎◌, ◌∙◌, ℕ, true, List, Option, Some, None, Result, Ok, Err, refl, ap, inr, arith}
+use Rattle.mml_lab.specs.{declared.who.Who.Who, Rosters.RosterValue}
 use Rattle.mml_board.specs.declared.denial.Denial.{Denial}
 use Rattle.mml_policy.specs.declared.command.Command.{Command}
 use Rattle.mml_codec.specs.declared.{request.LineFault.LineFault, request.Request.Request, reply.Reply.Reply}
 use Rattle.mml_codec.specs.declared.greeting.Greeting.{Greeting, TheVariants.Answered, TheVariants.LeftToJudge}
-use Rattle.mml_codec.specs.{Greetings.greeting, Greetings.admitted, Lines.request_in, Replies.is_short, Replies.place_in}
+use Rattle.mml_codec.specs.{Greetings.greeting, Lines.request_in, Replies.is_short, Replies.place_in}
 use Rattle.mml_engine.specs.Turns.{Settles, Asked, Turn}
-use Rattle.mml_board.specs.declared.denial.Denial.TheVariants as denial
 use Rattle.mml_codec.specs.declared.request.Request.TheVariants as requests
 use Rattle.mml_codec.specs.declared.reply.Reply.TheVariants as replies
 
 -- ---- the result of a request: a denial, a granted hello, a bye, or a command that is left to judge
 
 module _ (P : Greeting → Type 0) (hello : (who : Who) → P (Answered (replies.Hello who) (Some who))) (bye : P (Answered replies.Bye None)) where
-  by_admitted : ((d : Denial) → P (Answered (replies.Deny d) None)) → (found : Option Who) → P (admitted found)
-  by_admitted denied None = denied denial.Unknown
-  by_admitted denied (Some who) = hello who
-
   -- P holds for the result of any request if it holds for each of these results
   pub by_greeting : (roster : RosterValue) (known : Option Who) (q : Request) → ((d : Denial) → P (Answered (replies.Deny d) known))
       → ((who : Who) (c : Command) → known ≡ Some who → q ≡ requests.Do c → P (LeftToJudge who c)) → P (greeting roster known q)
-  by_greeting roster None (requests.Hello name key) denied judged = by_admitted denied (principal roster name key)
-  by_greeting roster (Some who) (requests.Hello name key) denied judged = denied denial.Greeted
-  by_greeting roster _ requests.Bye denied judged = bye
-  by_greeting roster None (requests.Do c) denied judged = denied denial.NotGreeted
-  by_greeting roster (Some who) (requests.Do c) denied judged = judged who c refl refl
+  by_greeting roster known q denied judged = grind (arith, nat_tests)
 
 -- ---- a line is answered without the engine, or by it
 
@@ -54,8 +46,7 @@ module _ {E V : Type 0} (tells : E → V → Who → Command → Reply → E →
   Does = IsQuiet e v r e' v' ⊎ IsTold tells known line e v r known' e' v'
 
   at_once : (q : Reply) → is_short q ≡ true → place_in q ≡ None → r ≡ q → e' ≡ e → v' ≡ v → Does
-  at_once q short none is same still =
-      inl (record { short = ap is_short is ∙ short; nameless = ap place_in is ∙ none; engine = same; view = still })
+  at_once q short none is same still = grind (arith, nat_tests)
 
   asked_does : (asked : Result Request LineFault) → request_in line ≡ asked → Asked tells roster known e v asked r known' e' v' → Does
   asked_does (Err fault) is h = at_once _ refl refl h.0 h.1.1 h.1.2
@@ -67,5 +58,4 @@ module _ {E V : Type 0} (tells : E → V → Who → Command → Reply → E →
 
   -- in each turn, the line is answered without the engine, or by it
   pub turn_does : Turn tells roster known e v line r known' e' v' → Does
-  turn_does (inl h) = asked_does (request_in line) refl h
-  turn_does (inr h) = at_once _ refl refl h.0 h.1.1 h.1.2
+  turn_does h0 = grind (arith, nat_tests, asked_does, at_once)

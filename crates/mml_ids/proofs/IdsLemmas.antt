@@ -1,6 +1,6 @@
 -- Lists of identifiers in rising order.
 use Rattle.std.proofs.Common.{◌≡◌, ◌≢◌, ℕ, zero, suc, ◌+◌, ◌<◌, ◌≤◌, Bool, false, not, cond, ◌||◌, eqb, List, [], ◌∷◌, length, get_or, take, Some, None, refl, sym, ap, ◌∙◌, arith, inl, inr}
-use Rattle.std.specs.{Prelude.position, Prelude.IsPermutation, Prelude.IsSorted, Prelude.sum_by, List.list_any, Ordering.nat_cmp}
+use Rattle.std.specs.{Prelude.IsPermutation, Prelude.IsSorted, Prelude.sum_by, List.list_any, Ordering.nat_cmp}
 use Rattle.std.proofs.lemmas.Bool.{cases_lt, cases_eq, cases_order, eq-eqb, ne_eqb, eqb-true, eqb-false, lt-ltb, ltb-true, ltb-false, leb-true, or_parts, and_parts, false≢true, not-false}
 use Rattle.std.proofs.lemmas.List.{get_or_default, Quantifiers.position-Some, Sums.sum_by-cons, Sums.position_or_len_is, Sums.fails_before_first}
 use Rattle.std.proofs.lemmas.List.Sorted.{IsNonDecreasingBy-from_sort, sum_by-IsPermutation, list_any-IsPermutation, length_permutation}
@@ -187,9 +187,6 @@ none_passes : (p : ℕ → Bool) (ns : List ℕ) → ((i : ℕ) → i < length n
 none_passes p [] h = refl
 none_passes p (n ∷ ns) h = rw (h 0 (omega arith)) (none_passes p ns (λ i l. h (suc i) (omega arith)))
 
-position_none : (p : ℕ → Bool) (ns : List ℕ) → position p ns ≡ None → list_any p ns ≡ false
-position_none p ns h = grind (arith, cases_lt, lt-ltb, none_passes, fails_before_first)
-
 -- a list of identifiers without an error: 1 to 256 numbers, all of them identifiers, and no two of them equal
 pub record IsSound (ns : List ℕ) : Type 0 where
   pub some : 0 < length ns
@@ -199,4 +196,4 @@ pub record IsSound (ns : List ℕ) : Type 0 where
 
 -- if `id_fault` finds no error, the list is sound: it is a list of 1 to 256 different identifiers
 pub sound : (ns : List ℕ) → id_fault ns ≡ None → IsSound ns
-sound ns h = grind (arith, both_none, eqb-false, if_none, ltb-false, position_none, map_none)
+sound ns h = grind (arith, both_none, eqb-false, if_none, ltb-false, cases_lt, lt-ltb, none_passes, fails_before_first, map_none)

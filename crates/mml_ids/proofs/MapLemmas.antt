@@ -1,7 +1,7 @@
 -- Searching a list, and searching the mapped list, which has f x for each element x of the list.
-use Rattle.std.proofs.Common.{◌≡◌, ℕ, List, [], ◌∷◌, Bool, true, false, cond, ◌||◌, length, map, Some, None, suc, refl, ap, arith}
+use Rattle.std.proofs.Common.{◌≡◌, List, [], ◌∷◌, Bool, true, false, ◌||◌, length, map, Some, suc, refl, ap, arith}
 use Rattle.std.proofs.lemmas.Bool.{cases_lt, lt-ltb, le-ltb}
-use Rattle.std.specs.{Prelude.option_map, Prelude.nat_lt, List.list_any, List.find, List.position, List.position_or_len}
+use Rattle.std.specs.{Prelude.option_map, List.list_any, List.find, List.position, List.position_or_len}
 
 -- f x passes the test for some element x exactly if some element of the mapped list passes the test
 pub list_any-map : {X Y : Type 0} (p : Y → Bool) (f : X → Y) (xs : List X) → list_any (λ x. p (f x)) xs ≡ list_any p (map f xs)
@@ -34,13 +34,10 @@ map-map g f (x ∷ xs) = ap (λ zs. g (f x) ∷ zs) (map-map g f xs)
 pub position-first : {X : Type 0} (p : X → Bool) (x : X) (xs : List X) → p x ≡ true → position p (x ∷ xs) ≡ Some 0
 position-first p x xs here = rw (here, lt-ltb 0 (suc (length xs)) (omega arith)) refl
 
-shift : (n m : ℕ) → cond (nat_lt (suc n) (suc m)) (Some (suc n)) None ≡ option_map suc (cond (nat_lt n m) (Some n) None)
-shift n m = grind (arith, cases_lt, lt-ltb, le-ltb)
-
 -- if the first element doesn't pass, `position_or_len` returns one more than for the rest of the list
 index-later : {X : Type 0} (p : X → Bool) (x : X) (xs : List X) → p x ≡ false → position_or_len p (x ∷ xs) ≡ suc (position_or_len p xs)
 index-later p x xs not_here = rw not_here (omega arith)
 
 -- if the first element doesn't pass, the index is one more than that in the rest of the list
 pub position-later : {X : Type 0} (p : X → Bool) (x : X) (xs : List X) → p x ≡ false → position p (x ∷ xs) ≡ option_map suc (position p xs)
-position-later p x xs not_here = grind (arith, index-later, shift)
+position-later p x xs not_here = grind (arith, index-later, cases_lt, lt-ltb, le-ltb)

@@ -9,15 +9,6 @@ use lib.Count.{ones_cat}
 use Rattle.mml_ids.specs.{Sets.those_below, inside.Words.bit_in, inside.Words.set_of, inside.WordsLemmas.has_empty, inside.WordsLemmas.has-set_of, inside.WordsLemmas.same_ranks}
 use Rattle.std.specs.FinSet as sets
 
-two_bits : (P : ℕ → ℕ → Type 0) → P 0 0 → P 0 1 → P 1 0 → P 1 1 → (x y : ℕ) → x < 2 → y < 2 → P x y
-two_bits P none second first both x y a b = grind arith
-
-and_bits : (x y : ℕ) → x < 2 → y < 2 → eqb (min x y) 1 ≡ (eqb x 1 && eqb y 1)
-and_bits = two_bits (λ x y. eqb (min x y) 1 ≡ (eqb x 1 && eqb y 1)) refl refl refl refl
-
-and_not_bits : (x y : ℕ) → x < 2 → y < 2 → eqb (min x (1 - y)) 1 ≡ (eqb x 1 && not (eqb y 1))
-and_not_bits = two_bits (λ x y. eqb (min x (1 - y)) 1 ≡ (eqb x 1 && not (eqb y 1))) refl refl refl refl
-
 and_both : (t x y : Bool) → (t && (x && y)) ≡ ((t && x) && (t && y))
 and_both t x y = grind arith
 
@@ -39,7 +30,7 @@ set_of-and n a b new each = same_ranks _ _ (λ q.
     ∙ (λ i. has-set_of n a q i && has-set_of n b q i)))
   where
     bits : (q : ℕ) → (ltb q n && bit_in new q) ≡ (ltb q n && (bit_in a q && bit_in b q))
-    bits q = grind (arith, cases_lt, bit_at_and, and_bits, bit_at-lt, le-ltb)
+    bits q = grind (arith, cases_lt, bit_at_and, bit_at-lt, le-ltb)
 
 -- if each new word is the first set's word without the bits of the second set's, the new words store the difference of
 -- the sets
@@ -60,7 +51,7 @@ set_of-and_not n a b new fits each = same_ranks _ _ (λ q.
           ap (λ word. ltb q n && eqb (bit_at word (q % 64)) 1) (each (q / 64) (omega arith))
           ∙ ap (λ bit. ltb q n && eqb bit 1)
           (bit_at_and x (bit_not w64 y) (q % 64) ∙ ap (min (bit_at x (q % 64))) (bit_at_not w64 y (q % 64) (fits (q / 64) (omega arith)) (omega arith)))
-          ∙ ap (λ t. ltb q n && t) (and_not_bits (bit_at x (q % 64)) (bit_at y (q % 64)) (bit_at-lt x (q % 64)) (bit_at-lt y (q % 64)))
+          ∙ ap (λ t. ltb q n && t) (grind (arith, bit_at x (q % 64), bit_at y (q % 64), bit_at-lt x (q % 64), bit_at-lt y (q % 64)))
       | inr ge ↦ rw (le-ltb q n ge) refl
     ]
 
@@ -104,9 +95,6 @@ low_digits b n = ap (λ m. b % m) (pow-succ' 2 n) ∙ mod-mul b {m = 2} {c = 2 ^
 none_counted : count_ones 0 ≡ 0
 none_counted = let small = ones_le_self 0 in omega arith
 
-one_counted : count_ones 1 ≡ 1
-one_counted = grind (arith, ones_le_self, zero_from_ones)
-
 -- adding a rank that isn't in the set makes its size greater by one
 pub len-insert_new : (s : FinSet nat_cmp) (k : ℕ) → sets.contains s k ≡ false → sets.len (sets.insert s k) ≡ sets.len s + 1
 len-insert_new s k e = sets.len-insert nat_cmp_total s k ∙ ap (λ c. cond c (sets.len s) (sets.len s + 1)) e
@@ -121,9 +109,6 @@ digit words n = bit_at (get_or words (n / 64) 0) (n % 64)
 one_more : (n : ℕ) (words : List ℕ) (t : Bool) → bit_in words n ≡ t
     → sets.len (cond t (sets.insert (set_of n words) n) (set_of n words)) ≡ digit words n + sets.len (set_of n words)
 one_more n words t e = grind (arith, eqb-true, len-insert_new, not_yet, eqb-false, bit_at-lt)
-
-count_bit : (x : ℕ) → x < 2 → count_ones x ≡ x
-count_bit x h = grind (arith, none_counted, one_counted)
 
 len-set_of_step : (n : ℕ) (words : List ℕ) → sets.len (set_of (suc n) words) ≡ digit words n + sets.len (set_of n words)
 unfolding set_of those_below
@@ -145,7 +130,7 @@ len-part words w (suc j) l =
     let some = pow_pos j in
     let counted : count_ones (b % 2 ^ suc j) ≡ bit_at b j + count_ones (b % 2 ^ j) =
     ap count_ones (low_digits b j) ∙ ones_cat j (bit_at b j) (b % 2 ^ j) (omega arith)
-    ∙ ap (λ k. k + count_ones (b % 2 ^ j)) (count_bit (bit_at b j) (bit_at-lt b j)) in
+    ∙ ap (λ k. k + count_ones (b % 2 ^ j)) (grind (arith, none_counted, ones_le_self, zero_from_ones, bit_at b j, bit_at-lt b j)) in
     let more : digit words (64 * w + j) ≡ bit_at b j = ap (λ x. bit_at (get_or words x 0) ((64 * w + j) % 64)) index ∙ ap (bit_at b) bit in
     ap (λ n. sets.len (set_of n words)) next ∙ len-set_of_step (64 * w + j) words
     ∙ omega (arith, len-part words w j (omega arith))

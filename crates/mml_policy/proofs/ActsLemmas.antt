@@ -9,12 +9,9 @@ use Rattle.mml_policy.specs.declared.verdict.Verdict.TheVariants as verdicts
 not_shown : (s : Result Leave Denial) → IfOk s (IsEvent true) → settled s ≢ verdicts.Show
 not_shown s h e = grind arith
 
-not_granted : (s : Result Leave Denial) (event : Event) → IfOk s (IsEvent false) → settled s ≢ verdicts.Grant event
-not_granted s event h e = grind arith
-
 module _ (ids : List ℕ) (r : RosterValue) (w : World) (x : Who) where
   pub act_not_shown : (c : Command) → is_act c ≡ true → verdict ids r w x c ≢ verdicts.Show
   act_not_shown c h = not_shown (clauses ids r w x c) (of_kind ids r w x c true h)
 
   pub view_not_granted : (c : Command) (e : Event) → is_act c ≡ false → verdict ids r w x c ≢ verdicts.Grant e
-  view_not_granted c e h = not_granted (clauses ids r w x c) e (of_kind ids r w x c false h)
+  view_not_granted c e h = grind (arith, clauses ids r w x c, of_kind ids r w x c false h)

@@ -1,14 +1,13 @@
 -- What a student can't see doesn't change the answers to the student.
 use Rattle.std.{proofs.lemmas.Bool.Decides.nat_tests, proofs.lemmas.Bool.cases_eq, proofs.lemmas.List.get_or-set_other, proofs.lemmas.Grind.get_or-set_at, specs.Result.IfOk}
-use Rattle.std.proofs.Common.{◌≡◌, ℕ, ◌<◌, Bool, true, false, cond, ◌&&◌, ◌||◌, List, [], ◌∷◌, length, map, Option, Some, Result, Ok, Err, refl, sym, ap, nat_le, ◌∙◌, subst, nat_le, arith, inl, inr}
-use Rattle.std.proofs.Common.{slice_set, filter}
+use Rattle.std.proofs.Common.{◌≡◌, ℕ, ◌<◌, Bool, true, cond, ◌||◌, List, [], ◌∷◌, length, map, Option, Some, Result, refl, sym, ap, nat_le, ◌∙◌, subst, nat_le, arith, inl, inr, filter}
 use Rattle.mml_rules.specs.{declared.rule.Rule.Rule, Configuration.Configuration, Configuration.IsLawful, Around.AgreeAround, Network.registers_at}
 use Rattle.mml_ids.proofs.{SearchLemmas.same_bool, SearchLemmas.some_below_same, GivesLemmas.bind-same, GivesLemmas.need-same, GivesLemmas.bind-if, GivesLemmas.need-if}
 use Rattle.mml_rules.proofs.AroundLemmas.{same_guard, same_kind}
 use Rattle.mml_lab.specs.{declared.who.Who.Who, Rosters.RosterValue, Rosters.owns}
-use Rattle.mml_board.specs.{World.World, World.size, World.configuration, World.chosen_at, Events.choosing, Events.done_by, declared.denial.Denial.Denial, declared.act.Act.Act, Clauses.check}
+use Rattle.mml_board.specs.{World.World, World.size, World.configuration, Events.done_by, declared.denial.Denial.Denial, declared.act.Act.Act, Clauses.check}
 use Rattle.mml_policy.specs.declared.{command.Command.Command, command.Asked.Asked, verdict.Leave.Leave, verdict.Leave.TheVariants.Grant}
-use Rattle.mml_policy.specs.{Visible.is_visible, Visible.owns_neighbour, Verdicts.granted, Verdicts.clauses, Clauses.rule_of, Shown.near, Shown.look_of, Alike.Alike, Alike.IsWorldOf}
+use Rattle.mml_policy.specs.{Visible.is_visible, Visible.owns_neighbour, Verdicts.granted, Verdicts.clauses, Clauses.rule_of, Shown.near, Alike.Alike, Alike.IsWorldOf}
 use Rattle.mml_ids.specs.Ids.{rank_in}
 use Rattle.mml_policy.specs.Rulings.{ruling_on_leave, ruled, ruling, after_ruling}
 use Rattle.mml_policy.specs.declared.ruling.Ruling.{Ruling, TheVariants.Full, TheVariants.Journal, TheVariants.Granted}
@@ -20,13 +19,6 @@ use Rattle.mml_board.specs.declared.act.Act.TheVariants as acts
 
 both_ways_linked : (c : Configuration) (i j : ℕ) → IsLawful c → c.linked i j ≡ c.linked j i
 both_ways_linked c i j l = same_bool _ _ (l.symmetric i j) (l.symmetric j i)
-
-and_alike : (b x y : Bool) → (b ≡ true → x ≡ y) → (x && b) ≡ (y && b)
-and_alike true x y h = ap (λ z. z && true) (h refl)
-and_alike false true true h = refl
-and_alike false false true h = refl
-and_alike false true false h = refl
-and_alike false false false h = refl
 
 filter_alike : {X Y : Type 0} (t : X → Bool) (f g : X → Y) (xs : List X) → ((x : X) → t x ≡ true → f x ≡ g x) → map f (filter t xs) ≡ map g (filter t xs)
 filter_alike t f g [] h = refl
@@ -60,7 +52,7 @@ module _ (ids : List ℕ) (r : RosterValue) (limit : ℕ) (is_halted : Bool) (s 
 
   same_neighbour : (i : ℕ) → owns_neighbour r c x i ≡ owns_neighbour r d x i
   unfolding owns_neighbour
-  same_neighbour i = grind (arith, nat_tests, same_size, some_below_same, and_alike, to_mine)
+  same_neighbour i = grind (arith, nat_tests, same_size, some_below_same, to_mine)
 
   same_visible : (i : ℕ) → is_visible r c x i ≡ is_visible r d x i
   same_visible i = ap (λ b. owns r x i || b) (same_neighbour i)
@@ -89,21 +81,12 @@ module _ (ids : List ℕ) (r : RosterValue) (limit : ℕ) (is_halted : Bool) (s 
   unfolding near
   same_near i own = grind (arith, nat_tests, filter_alike, same_size)
 
-  same_look : (i : ℕ) → owns r x i ≡ true → look_of w i ≡ look_of v i
-  same_look i own = grind (arith, nat_tests, same_kind, around, same_near)
-
   -- ---- if the same move is chosen in both worlds, they still look the same to the student
   room_w : (i : ℕ) → i < length ids → i < length w.chosen
   room_w i l = let e = in_w.nodes in let f = in_w.world.choices in omega arith
 
   room_v : (i : ℕ) → i < length ids → i < length v.chosen
   room_v i l = let e = in_v.nodes in let f = in_v.world.choices in omega arith
-
-  chosen_alike : (i j : ℕ) (q : Option Rule) → i < length ids → owns r x j ≡ true → chosen_at (slice_set w.chosen i q) j ≡ chosen_at (slice_set v.chosen i q) j
-  chosen_alike i j q l own = grind (arith, nat_tests, cases_eq, get_or-set_at, room_w, room_v, get_or-set_other)
-
-  choosing_alike : (i : ℕ) (q : Option Rule) → i < length ids → Alike r s (choosing w i q) (choosing v i q)
-  choosing_alike i q l = grind (arith, nat_tests, chosen_alike)
 
   -- the permission l leads to the same ruling in both worlds, and the worlds after this ruling look the same to the
   -- student
@@ -115,9 +98,7 @@ module _ (ids : List ℕ) (r : RosterValue) (limit : ℕ) (is_halted : Bool) (s 
   entered : (b h : Bool) (g k : Ruling) → g ≡ k → Alike r s (after_ruling w g) (after_ruling v k) →
       (cond b Full (cond h Journal g) ≡ cond b Full (cond h Journal k))
       × Alike r s (after_ruling w (cond b Full (cond h Journal g))) (after_ruling v (cond b Full (cond h Journal k)))
-  entered true h g k e l = (refl, a)
-  entered false true g k e l = (refl, a)
-  entered false false g k e l = (e, l)
+  entered b h g k e l = grind (arith, nat_tests)
 
   keeps_move : (i : ℕ) (q : Rule) → i < length ids → Keeps (Grant (event.Grant s i q))
   keeps_move i q l =
@@ -127,11 +108,11 @@ module _ (ids : List ℕ) (r : RosterValue) (limit : ℕ) (is_halted : Bool) (s 
       subst (λ b. (cond (nat_le limit w.place) Full (cond is_halted Journal g) ≡ cond b Full (cond is_halted Journal k))
       × Alike r s (after_ruling w (cond (nat_le limit w.place) Full (cond is_halted Journal g))) (after_ruling v (cond b Full (cond is_halted Journal k))))
       (ap (nat_le limit) a.place)
-      (entered (nat_le limit w.place) is_halted g k refl (choosing_alike i (Some q) l))
+      (entered (nat_le limit w.place) is_halted g k refl (grind (arith, nat_tests, cases_eq, get_or-set_at, room_w, room_v, get_or-set_other, Some q)))
 
   keeps : (k : Command) → IfOk (clauses ids r w x k) Keeps
   keeps (command.See id) = grind (arith, nat_tests, bind-if, need-if, same_seen)
-  keeps (command.Look id) = grind (arith, nat_tests, bind-if, need-if, same_look)
+  keeps (command.Look id) = grind (arith, nat_tests, bind-if, need-if, same_kind, around, same_near)
   keeps (command.Move id q at) = grind (arith, nat_tests, bind-if, need-if, keeps_move, node_there)
   keeps _ = tt
 
@@ -141,8 +122,7 @@ module _ (ids : List ℕ) (r : RosterValue) (limit : ℕ) (is_halted : Bool) (s 
       × Alike r s (after_ruling w (ruled limit is_halted w p)) (after_ruling v (ruled limit is_halted v q))
 
   same : (p q : Result Leave Denial) → p ≡ q → IfOk p Keeps → Same p q
-  same (Ok l) q e h = subst (Same (Ok l)) e h
-  same (Err d) q e h = subst (Same (Err d)) e (refl, a)
+  same p q e h = grind (arith, nat_tests)
 
   both : (k : Command) → Same (clauses ids r w x k) (clauses ids r v x k)
   both k = same _ _ (same_clauses k) (keeps k)

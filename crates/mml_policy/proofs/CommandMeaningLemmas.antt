@@ -71,19 +71,9 @@ module _ (ids : List ℕ) (x : Who) (first second : ℕ) (rest : ℕ → ℕ →
   pub both_ends : (a b : ℕ) (v : Result Event Denial) → IsAskedOfBoth ids x first second a b → rest a b ≡ v → asked_of_both ≡ v
   both_ends a b v asked e = grind (arith, need-from, bind-from)
 
-  -- if the command is granted, the teacher asks, both nodes exist, and the remaining clauses grant it
-  pub both_found : (l : Event) → asked_of_both ≡ Ok l → (a : ℕ) × (b : ℕ) × IsAskedOfBoth ids x first second a b × (rest a b ≡ Ok l)
-  both_found l h = grind (arith, need-ok, bind-ok, teacher_is, node-ok)
-
 module _ (ids : List ℕ) (r : RosterValue) (w : World) (x : Who) where
-  to_see : (id : ℕ) → IsLawful (configuration w) → verdict ids r w x (command.See id) ≡ verdicts.Show → MaySee ids r w x id
-  to_see id l h = grind (arith, settled-show, bind-ok, need-ok, node-ok, visible_means)
-
-  from_see : (id : ℕ) → IsLawful (configuration w) → MaySee ids r w x id → verdict ids r w x (command.See id) ≡ verdicts.Show
-  from_see id l f = grind (arith, bind-from, need-from, visible_means)
-
   pub see_means : (id : ℕ) → IsLawful (configuration w) → (verdict ids r w x (command.See id) ≡ verdicts.Show) ↔ MaySee ids r w x id
-  see_means id l = (to_see id l, from_see id l)
+  see_means id l = (grind (arith, settled-show, bind-ok, need-ok, node-ok, visible_means), grind (arith, bind-from, need-from, visible_means))
 
   owner_or_teacher : (i : ℕ) → (is_teacher x || owns r x i) ≡ true → (x ≡ who.Teacher) ⊎ (owns r x i ≡ true)
   owner_or_teacher i h = elim (or_cases (is_teacher x) (owns r x i) h) [ inl t ↦ inl (teacher_is x t) | inr o ↦ inr o ]
@@ -100,62 +90,26 @@ module _ (ids : List ℕ) (r : RosterValue) (w : World) (x : Who) where
   pub look_means : (id : ℕ) → (verdict ids r w x (command.Look id) ≡ verdicts.Show) ↔ MayLook ids r x id
   look_means id = (to_look id, from_look id)
 
-  to_close : (e : Event) → verdict ids r w x command.Close ≡ verdicts.Grant e → (x ≡ who.Teacher) × MayClose w e
-  to_close e h = grind (arith, need-ok, act-grant, chosen-some, teacher_is, event-same)
-
-  from_close : (e : Event) → (x ≡ who.Teacher) × MayClose w e → verdict ids r w x command.Close ≡ verdicts.Grant e
-  from_close e f = grind (arith, need-from, some-chosen)
-
   pub close_means : (e : Event) → (verdict ids r w x command.Close ≡ verdicts.Grant e) ↔ ((x ≡ who.Teacher) × MayClose w e)
-  close_means e = (to_close e, from_close e)
-
-  to_fault : (id : ℕ) (p : Option ℕ) (m : Bool) (e : Event) → verdict ids r w x (command.Fault id p m) ≡ verdicts.Grant e
-      → (x ≡ who.Teacher) × MayFault ids w id p m e
-  to_fault id p m e h = grind (arith, need-ok, act-grant, bind-ok, teacher_is, node-ok, named-is, register-is, event-same)
-
-  from_fault : (id : ℕ) (p : Option ℕ) (m : Bool) (e : Event) → (x ≡ who.Teacher) × MayFault ids w id p m e
-      → verdict ids r w x (command.Fault id p m) ≡ verdicts.Grant e
-  from_fault id p m e f = grind (arith, need-from, bind-from, named-from, register-from)
+  close_means e = (grind (arith, need-ok, act-grant, chosen-some, teacher_is, event-same), grind (arith, need-from, some-chosen))
 
   pub fault_means : (id : ℕ) (p : Option ℕ) (m : Bool) (e : Event)
       → (verdict ids r w x (command.Fault id p m) ≡ verdicts.Grant e) ↔ ((x ≡ who.Teacher) × MayFault ids w id p m e)
-  fault_means id p m e = (to_fault id p m e, from_fault id p m e)
-
-  to_link : (first second : ℕ) (e : Event) → verdict ids r w x (command.Link first second) ≡ verdicts.Grant e → (x ≡ who.Teacher) × MayLink ids w first second e
-  to_link first second e h = grind (arith, both_found, act-grant, need-ok, eqb-false, not-true, event-same)
-
-  from_link : (first second : ℕ) (e : Event) → (x ≡ who.Teacher) × MayLink ids w first second e
-      → verdict ids r w x (command.Link first second) ≡ verdicts.Grant e
-  from_link first second e f = grind (arith, both_ends, need-from, not_from_false, ne_eqb)
+  fault_means id p m e = (grind (arith, need-ok, act-grant, bind-ok, teacher_is, node-ok, named-is, register-is, event-same), grind (arith, need-from, bind-from, named-from, register-from))
 
   pub link_means : (first second : ℕ) (e : Event)
       → (verdict ids r w x (command.Link first second) ≡ verdicts.Grant e) ↔ ((x ≡ who.Teacher) × MayLink ids w first second e)
-  link_means first second e = (to_link first second e, from_link first second e)
-
-  to_cut : (first second : ℕ) (e : Event) → verdict ids r w x (command.Cut first second) ≡ verdicts.Grant e → (x ≡ who.Teacher) × MayCut ids w first second e
-  to_cut first second e h = grind (arith, both_found, act-grant, need-ok, event-same)
-
-  from_cut : (first second : ℕ) (e : Event) → (x ≡ who.Teacher) × MayCut ids w first second e → verdict ids r w x (command.Cut first second) ≡ verdicts.Grant e
-  from_cut first second e f = grind (arith, both_ends, need-from)
+  link_means first second e = (grind (arith, bind-ok, teacher_is, node-ok, act-grant, need-ok, eqb-false, not-true, event-same), grind (arith, both_ends, need-from, not_from_false, ne_eqb))
 
   pub cut_means : (first second : ℕ) (e : Event)
       → (verdict ids r w x (command.Cut first second) ≡ verdicts.Grant e) ↔ ((x ≡ who.Teacher) × MayCut ids w first second e)
-  cut_means first second e = (to_cut first second e, from_cut first second e)
-
-  to_release : (id : ℕ) (e : Event) → verdict ids r w x (command.Release id) ≡ verdicts.Grant e → (x ≡ who.Teacher) × MayRelease ids w id e
-  to_release id e h = grind (arith, need-ok, act-grant, bind-ok, some-value, teacher_is, node-ok, event-same)
-
-  from_release : (id : ℕ) (e : Event) → (x ≡ who.Teacher) × MayRelease ids w id e → verdict ids r w x (command.Release id) ≡ verdicts.Grant e
-  from_release id e f = grind (arith, need-from, bind-from)
+  cut_means first second e = (grind (arith, bind-ok, teacher_is, node-ok, act-grant, need-ok, event-same), grind (arith, both_ends, need-from))
 
   pub release_means : (id : ℕ) (e : Event) → (verdict ids r w x (command.Release id) ≡ verdicts.Grant e) ↔ ((x ≡ who.Teacher) × MayRelease ids w id e)
-  release_means id e = (to_release id e, from_release id e)
-
-  to_report : verdict ids r w x command.Report ≡ verdicts.Show → x ≡ who.Teacher
-  to_report h = grind (arith, settled-show, need-ok, teacher_is)
+  release_means id e = (grind (arith, need-ok, act-grant, bind-ok, some-value, teacher_is, node-ok, event-same), grind (arith, need-from, bind-from))
 
   from_report : x ≡ who.Teacher → verdict ids r w x command.Report ≡ verdicts.Show
   from_report t = ap settled (need-from (is_teacher x) _ _ _ (ap is_teacher t) refl)
 
   pub report_means : (verdict ids r w x command.Report ≡ verdicts.Show) ↔ (x ≡ who.Teacher)
-  report_means = (to_report, from_report)
+  report_means = (grind (arith, settled-show, need-ok, teacher_is), from_report)

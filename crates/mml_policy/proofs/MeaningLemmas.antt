@@ -1,6 +1,6 @@
 -- When a move is granted.
 use Rattle.std.{proofs.lemmas.Bool.Decides.nat_tests, proofs.lemmas.Bool.eqb-true, proofs.lemmas.Bool.eqb-false, proofs.lemmas.Result.IfErr-at_err, specs.Prelude.◌↔◌, specs.Result.IfErr}
-use Rattle.std.proofs.Common.{false, Result, Err, subst, true≢false, ◌≡◌, ℕ, ◌==◌, true, List, Option, None, Some, is_none, Ok, refl, sym, ◌∙◌, arith}
+use Rattle.std.proofs.Common.{false, Err, subst, true≢false, ◌≡◌, ℕ, ◌==◌, true, List, Option, None, Some, is_none, Ok, refl, sym, ◌∙◌, arith}
 use Rattle.mml_ids.specs.Ids.{rank_in}
 use Rattle.mml_rules.specs.{declared.rule.Rule.Rule, Configuration.IsLawful, Rules.guard}
 use Rattle.mml_rules.proofs.MeaningLemmas.{guard-means}
@@ -36,12 +36,6 @@ asked_is ids a d q h = grind (arith, bind-ok, node-ok)
 asked_from : (ids : List ℕ) (a : Asked) (d : Denial) (q : Rule) → IsAsked ids a q → rule_step ids a d ≡ Ok q
 asked_from ids a d q h = grind (arith, bind-from)
 
-ok-same : (p q : Rule) → (let s : Result Rule Denial = Ok p in s ≡ Ok q) → p ≡ q
-ok-same p q e = grind arith
-
-asked_once : (ids : List ℕ) (a : Asked) (p q : Rule) → rule_step ids a Guard ≡ Ok p → IsAsked ids a q → p ≡ q
-asked_once ids a p q h k = ok-same p q (sym h ∙ asked_from ids a Guard q k)
-
 -- if the step for the rule fails, the denial is `Guard`, and no rule matches the request
 pub no_rule : (ids : List ℕ) (a : Asked) (d : Denial) → rule_step ids a Guard ≡ Err d → (d ≡ Guard) × ((q : Rule) → ¬ IsAsked ids a q)
 no_rule ids a d h = grind (arith, none_some)
@@ -60,15 +54,8 @@ module _ (ids : List ℕ) (r : RosterValue) (w : World) (x : Who) (id : ℕ) (a 
       let six = bind-ok (rule_step ids a Guard) _ _ five.1 in
       grind (arith, nat_tests, need-ok, student-ok, node-ok, owner_is, eqb-true, none-is, asked_is, guard-means)
 
-  from_facts : (e : Event) → IsMove e → verdict ids r w x (command.Move id a at) ≡ verdicts.Grant e
-  from_facts e f =
-      let m = f.4 in
-      let rule = asked_from ids a Guard f.2 m.guard.0 in
-      let g = (guard-means (configuration w) f.1 f.2 l).1 m.guard.1 in
-      grind (arith, nat_tests, rule, g)
-
   pub move_means : (e : Event) → (verdict ids r w x (command.Move id a at) ≡ verdicts.Grant e) ↔ IsMove e
-  move_means e = (to_facts e, from_facts e)
+  move_means e = (to_facts e, grind (arith, nat_tests, asked_from, guard-means))
 
   abbrev why : Denial → Type 0
   why = DeniesMove ids r w x id a at
@@ -83,7 +70,7 @@ module _ (ids : List ℕ) (r : RosterValue) (w : World) (x : Who) (id : ℕ) (a 
   no_owner i there h s j own = grind (arith, true≢false)
 
   no_guard : (i : ℕ) (q : Rule) → rule_step ids a Guard ≡ Ok q → guard (configuration w) i q ≡ false → (p : Rule) → ¬ IsGuarded ids w i a p
-  no_guard i q asked fails p k = grind (arith, true≢false, asked_once, guard-means)
+  no_guard i q asked fails p k = grind (arith, true≢false, sym, guard-means)
 
   reasons : IfErr (check (owns r) w x (acts.Move (rank_in ids id) (rule_of ids a) at)) why
   reasons =

@@ -1,21 +1,15 @@
 -- The event that a ruling grants.
-use Rattle.std.proofs.Common.{◌≡◌, ℕ, ◌<◌, Bool, true, false, cond, nat_le, List, length, Some, Result, arith}
+use Rattle.std.proofs.Common.{◌≡◌, ℕ, ◌<◌, Bool, true, false, nat_le, List, length, Some, Result, arith}
 use Rattle.std.{specs.Result.IfOk, proofs.lemmas.Bool.leb-false}
 use Rattle.mml_lab.specs.{declared.who.Who.Who, Rosters.RosterValue}
-use Rattle.mml_board.specs.{declared.event.Event.Event, declared.denial.Denial.Denial, World.World, World.size, Events.is_legal, Events.done_by}
-use Rattle.mml_policy.specs.declared.{command.Command.Command, ruling.Ruling.TheVariants.Full, ruling.Ruling.TheVariants.Journal, ruling.Ruling.TheVariants.Granted, verdict.Leave.Leave}
-use Rattle.mml_policy.specs.{Verdicts.clauses, Rulings.ruled, Rulings.ruling, Rulings.event_of}
+use Rattle.mml_board.specs.{declared.event.Event.Event, declared.denial.Denial.Denial, World.World, World.size, Events.is_legal}
+use Rattle.mml_policy.specs.{declared.command.Command.Command, declared.verdict.Leave.Leave, Verdicts.clauses, Rulings.ruled, Rulings.ruling, Rulings.event_of}
 use Rattle.mml_policy.proofs.VerdictLemmas.{IsFine, fine}
-
-unless_full : (b h : Bool) (limit place : ℕ) (e f : Event) (w : World) → nat_le limit place ≡ b
-    → event_of (cond b Full (cond h Journal (Granted e (done_by w e)))) ≡ Some f
-    → (e ≡ f) × (place < limit) × (h ≡ false)
-unless_full b h limit place e f w n k = grind (arith, leb-false)
 
 taken : (ids : List ℕ) (r : RosterValue) (limit : ℕ) (is_halted : Bool) (w : World) (s : Result Leave Denial) (e : Event) → IfOk s (IsFine ids r w)
     → event_of (ruled limit is_halted w s) ≡ Some e
     → (is_legal r w e ≡ true) × (w.place < limit) × (is_halted ≡ false)
-taken ids r limit is_halted w s e h k = grind (arith, unless_full, nat_le)
+taken ids r limit is_halted w s e h k = grind (arith, leb-false, nat_le)
 
 -- an event that happens is legal, the limit of events isn't reached, and the journal isn't halted
 pub legal_event : (ids : List ℕ) (r : RosterValue) (limit : ℕ) (is_halted : Bool) (w : World) (x : Who) (c : Command) (e : Event) → length ids ≡ size w

@@ -23,17 +23,9 @@ one_node : (i j : ℕ) → (let r : Result Leave Denial = Ok (See i) in r ≡ Ok
 one_node i j h = cc
 
 module _ (ids : List ℕ) (r : RosterValue) (limit : ℕ) (halted : Bool) (w : World) (x : Who) (lawful : IsLawful (configuration w)) where
-  to_seen : (id : ℕ) (s : TheSee.See) → ruling ids r limit halted w x (command.See id) ≡ Seen s
-      → (i : ℕ) × (rank_in ids id ≡ Some i) × IsVisible r (configuration w) x i × (s ≡ see_of w i)
-  to_seen id s h = grind (arith, seen, bind-ok, need-ok, node-ok, visible_means, one_node)
-
-  from_seen : (id : ℕ) (s : TheSee.See) → (i : ℕ) × (rank_in ids id ≡ Some i) × IsVisible r (configuration w) x i × (s ≡ see_of w i)
-      → ruling ids r limit halted w x (command.See id) ≡ Seen s
-  from_seen id s f = grind (arith, bind-from, need-from, visible_means)
-
   pub see_shows : (id : ℕ) (s : TheSee.See)
       → (ruling ids r limit halted w x (command.See id) ≡ Seen s) ↔ ((i : ℕ) × (rank_in ids id ≡ Some i) × IsVisible r (configuration w) x i × (s ≡ see_of w i))
-  see_shows id s = (to_seen id s, from_seen id s)
+  see_shows id s = (grind (arith, seen, bind-ok, need-ok, node-ok, visible_means, one_node), grind (arith, bind-from, need-from, visible_means))
 
   hidden_at : (id : ℕ) (o : Option ℕ) → rank_in ids id ≡ o → ¬ MaySee ids r w x id → clauses ids r w x (command.See id) ≡ Err Hidden
   hidden_at id o e none = grind (arith, bind-from, cases_Bool, visible_means)

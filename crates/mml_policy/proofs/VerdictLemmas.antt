@@ -1,7 +1,7 @@
 -- Events that are granted are legal, nodes that are shown exist, and only acts are granted.
 use Rattle.std.proofs.lemmas.{Bool.Decides.nat_tests, Result.IfOk-at_ok, List.Quantifiers.position-Some}
 use Rattle.std.specs.{Prelude.◌||◌, Result.IfOk, Result.IfErr, Option.IfSome}
-use Rattle.std.proofs.Common.{◌≡◌, ℕ, ◌<◌, ◌==◌, Bool, true, false, List, length, Option, None, Some, option_map, Result, Ok, Err, refl, sym, ap, ◌∙◌, arith}
+use Rattle.std.proofs.Common.{◌≡◌, ℕ, ◌<◌, Bool, true, false, List, length, Option, option_map, Result, Ok, Err, refl, sym, ap, ◌∙◌, arith}
 use Rattle.mml_lab.specs.{declared.who.Who.Who, Rosters.RosterValue, Rosters.owns}
 use Rattle.mml_board.specs.declared.{event.Event.Event, denial.Denial.Denial, denial.Denial.TheVariants.Hidden, denial.Denial.TheVariants.NotOwner, act.Act.Act}
 use Rattle.mml_board.specs.{World.World, World.size, World.configuration, Events.is_legal, Clauses.check, ActNodes.AreAllThere}
@@ -67,20 +67,9 @@ IsEvent b l = is_event l ≡ b
 abbrev Good : List ℕ → RosterValue → World → Bool → Leave → Type 0
 Good ids r w b l = IsEvent b l × (length ids ≡ size w → IsFine ids r w l)
 
-both_of : {A E : Type 0} (P Q : A → Type 0) (s : Result A E) → ((a : A) → P a → Q a) → IfOk s P → IfOk s Q
-both_of P Q s f h = grind arith
-
-found_there : (ids : List ℕ) (id n : ℕ) → length ids ≡ n → IfSome (rank_in ids id) (λ i. i < n)
-found_there ids id n same = go (rank_in ids id) refl
-  where
-    go : (o : Option ℕ) → rank_in ids id ≡ o → IfSome o (λ i. i < n)
-    go None e = tt
-    go (Some i) e = let l = (position-Some (λ m. m == id) ids i 0 e).0 in omega (arith, l, same)
-
 module _ (ids : List ℕ) (r : RosterValue) (w : World) (x : Who) where
   with_event : (s : Result Event Denial) → (length ids ≡ size w → IfOk s (λ e. is_legal r w e ≡ true)) → IfOk s (λ e. Good ids r w true (Grant e))
-  with_event (Ok e) h = (refl, h)
-  with_event (Err d) h = tt
+  with_event s h = grind (arith, nat_tests)
 
   abbrev act : Leave → Type 0
   act = Good ids r w true
@@ -92,11 +81,10 @@ module _ (ids : List ℕ) (r : RosterValue) (w : World) (x : Who) where
   of_act a there = granted-if act (check (owns r) w x a) (with_event (check (owns r) w x a) (λ same. again_legal r w x a (there same)))
 
   found : (id : ℕ) → length ids ≡ size w → IfSome (rank_in ids id) (λ i. i < size w)
-  found id same = found_there ids id (size w) same
+  found id same = grind (arith, nat_tests, position-Some, size w)
 
   pointed : (p : Option ℕ) → length ids ≡ size w → IfSome (option_map (rank_in ids) p) (λ o. IfSome o (λ j. j < size w))
-  pointed None same = tt
-  pointed (Some id) same = found id same
+  pointed p same = grind (arith, nat_tests, found)
 
   good : (c : Command) → IfOk (clauses ids r w x c) (Good ids r w (is_act c))
   good (command.See id) = grind (arith, nat_tests, bind-if, need-if, node_there)
@@ -111,7 +99,7 @@ module _ (ids : List ℕ) (r : RosterValue) (w : World) (x : Who) where
 
   -- if the clauses of a command permit something, it is an event exactly if the command is an act
   pub of_kind : (c : Command) (b : Bool) → is_act c ≡ b → IfOk (clauses ids r w x c) (IsEvent b)
-  of_kind c b h = grind (arith, both_of, good)
+  of_kind c b h = grind (arith, good)
 
   abbrev denies : Denial → Type 0
   denies d = is_of_act w d ≡ true
@@ -134,7 +122,7 @@ module _ (ids : List ℕ) (r : RosterValue) (w : World) (x : Who) where
 
   module _ (same : length ids ≡ size w) where
     pub fine : (c : Command) → IfOk (clauses ids r w x c) (IsFine ids r w)
-    fine c = both_of (Good ids r w (is_act c)) (IsFine ids r w) (clauses ids r w x c) (λ l k. k.1 same) (good c)
+    fine c = grind (arith, Good ids r w (is_act c), IsFine ids r w, clauses ids r w x c, good c)
 
     pub granted_legal : (c : Command) (e : Event) → verdict ids r w x c ≡ verdicts.Grant e → is_legal r w e ≡ true
     granted_legal c e h = IfOk-at_ok (IsFine ids r w) (settled-grant (clauses ids r w x c) e h) (fine c)

@@ -55,11 +55,6 @@ has_around r c x i near around owned both linked is_around mine is_both j =
     ap (λ s. sets.contains s j) is_both ∙ sets.contains-intersection nat_cmp_total around owned j
     ∙ (λ t. sets.contains (is_around t) j && mine j t) ∙ ap (λ b. b && owns r x j) (has_insert near i j ∙ ap (λ b. eqb j i || b) (linked j))
 
--- if x owns i or a node linked to i, `owns` or `owns_neighbour` is true for i
-around_found : (r : RosterValue) (c : Configuration) (x : Who) (i j : ℕ) → IsLawful c → owned_around r c x i j ≡ true
-    → true ≡ (owns r x i || owns_neighbour r c x i)
-around_found r c x i j lawful is = grind (arith, and_parts, or_cases, or_left, eqb-true, or_right, owner_found, and_from)
-
 -- if x owns neither i nor a node linked to i, both `owns` and `owns_neighbour` are false for i
 none_around : (r : RosterValue) (c : Configuration) (x : Who) (i : ℕ) → ((j : ℕ) → owned_around r c x i j ≡ false)
     → false ≡ (owns r x i || owns_neighbour r c x i)
@@ -70,4 +65,4 @@ pub around_is_some : (r : RosterValue) (c : Configuration) (x : Who) (i : ℕ) (
     → ((j : ℕ) → sets.contains both j ≡ owned_around r c x i j) → IfSome found (λ j. sets.contains both j ≡ true) → IfNone found (both ≡ sets.empty)
     → is_some found ≡ (owns r x i || owns_neighbour r c x i)
 around_is_some r c x i both None lawful has member none = none_around r c x i (λ j. sym (has j) ∙ ap (λ s. sets.contains s j) none ∙ has_empty j)
-around_is_some r c x i both (Some j) lawful has member none = around_found r c x i j lawful (sym (has j) ∙ member)
+around_is_some r c x i both (Some j) lawful has member none = grind (arith, and_parts, or_cases, or_left, eqb-true, or_right, owner_found, and_from, sym (has j) ∙ member)

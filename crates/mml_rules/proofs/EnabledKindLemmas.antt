@@ -1,6 +1,6 @@
 -- At most one of the four rules is enabled at a node, and `enabled_kind` names it.
+use Rattle.std.proofs.lemmas.Bool.{Decides.nat_tests, and_parts, and_from, not-true, false_from_ne_true, both_ways}
 use Rattle.std.proofs.Common.{◌≡◌, ℕ, Bool, true, false, cond, not, Option, None, Some, is_some, is_none, sym, refl, ap, ◌∙◌, arith}
-use Rattle.std.proofs.lemmas.Bool.{and_parts, and_from, not-true, false_from_ne_true, both_ways}
 use Rattle.mml_rules.specs.{declared.rule.Rule.Rule, declared.rule.Kind.Kind, Configuration.Configuration, Configuration.IsLawful}
 use Rattle.mml_rules.specs.Rules.{has_suitor, greatest_candidate, m_is_right, points_in_vain, guard, kind_of, enabled_kind, is_privileged}
 use Rattle.mml_rules.proofs.ConfigurationLemmas.{holds-true, holds-from}
@@ -36,21 +36,7 @@ chosen_abandonment s p v u b h k l = rw (h, k, l) refl
 -- if the guard of a rule holds, `enabled_kind` names its kind, so at most one of the four kinds is enabled
 pub guard-kind : (c : Configuration) (i : ℕ) (r : Rule) → IsLawful c → guard c i r ≡ true → enabled_kind c i ≡ Some (kind_of r)
 guard-kind c i r l h =
-    grind (
-      arith,
-      kind-choose,
-      chosen_update,
-      not-true,
-      and_parts,
-      is_none,
-      chosen_marriage,
-      null-some,
-      suitor-from,
-      holds-true,
-      chosen_seduction,
-      chosen_abandonment,
-      vain-some,
-    )
+    grind (arith, nat_tests, kind-choose, chosen_update, not-true, and_parts, chosen_marriage, null-some, suitor-from, holds-true, chosen_seduction, chosen_abandonment, vain-some)
 
 -- at a node that isn't privileged, no rule's guard holds
 pub idle-guard : (c : Configuration) (i : ℕ) (r : Rule) → IsLawful c → is_privileged c i ≡ false → guard c i r ≡ false

@@ -1,7 +1,7 @@
 -- Each test of the rules is true exactly if the fact that it tests holds.
+use Rattle.std.proofs.lemmas.Bool.{Decides.nat_tests, and_parts, and_from, or_cases, or_left, or_right, not-true, false_from_ne_true, both_ways, false≢true, lt-ltb, ltb-true, cases_order}
 use Rattle.std.proofs.Common.{◌≡◌, ◌↔◌, ◌≢◌, ℕ, ◌<◌, Bool, true, not, ◌&&◌, inl, inr, nat_lt, Option, None, Some, is_some, is_none, refl, ap, arith}
 use Rattle.std.specs.Bool.{beq}
-use Rattle.std.proofs.lemmas.Bool.{and_parts, and_from, or_cases, or_left, or_right, not-true, false_from_ne_true, both_ways, false≢true, lt-ltb, ltb-true, cases_order}
 use Rattle.mml_rules.specs.{declared.rule.Rule.Rule, Configuration.Configuration, Configuration.IsLawful, Configuration.holds}
 use Rattle.mml_rules.specs.Rules.{is_married, has_suitor, is_candidate, greatest_candidate, m_is_right, points_in_vain, guard, effect, is_privileged}
 use Rattle.mml_rules.specs.Meaning.{IsMarried, IsMRight, HasSuitor, IsCandidate, IsGreatestCandidate, PointsInVain, MayApply}
@@ -113,39 +113,23 @@ some-to c i l h = go (greatest_candidate c i) refl h
     go None e s = absurd (false≢true s)
     go (Some j) e s = (j, (greatest-to c i j l e).0)
 
-some-back : (c : Configuration) (i j : ℕ) → IsLawful c → IsCandidate c i j → is_some (greatest_candidate c i) ≡ true
-some-back c i j l a = grind (arith, none-to)
-
 -- ---- the four guards
-
-vain-to : (c : Configuration) (i : ℕ) → points_in_vain c i ≡ true → PointsInVain c i
-vain-to c i h = grind (arith, nat_lt, false≢true, and_parts, both_ways, not-true, holds-from, or_cases, ltb-true)
-
-vain-back : (c : Configuration) (i : ℕ) → PointsInVain c i → points_in_vain c i ≡ true
-vain-back c i h = grind (arith, nat_lt, and_from, false_from_ne_true, holds-true, or_left, or_right, lt-ltb)
 
 -- `points_in_vain` is true exactly if `PointsInVain` holds
 pub vain-means : (c : Configuration) (i : ℕ) → (points_in_vain c i ≡ true) ↔ PointsInVain c i
-vain-means c i = (vain-to c i, vain-back c i)
-
-guard-to : (c : Configuration) (i : ℕ) (r : Rule) → IsLawful c → guard c i r ≡ true → MayApply c i r
-guard-to c i r l h = grind (arith, both_ways, not-true, right-back, and_parts, is_none, right-to, none-null, holds-true, suitor-back, some-to, vain-to)
+vain-means c i = (grind (arith, nat_lt, false≢true, and_parts, both_ways, not-true, holds-from, or_cases, ltb-true), grind (arith, nat_lt, and_from, false_from_ne_true, holds-true, or_left, or_right, lt-ltb))
 
 guard-back : (c : Configuration) (i : ℕ) (r : Rule) → IsLawful c → MayApply c i r → guard c i r ≡ true
-guard-back c i r l h = grind (arith, false_from_ne_true, right-to, and_from, right-back, null-none, holds-from, suitor-to, some-back, vain-back)
+guard-back c i r l h = grind (arith, false_from_ne_true, right-to, and_from, right-back, null-none, holds-from, suitor-to, none-to, nat_lt, holds-true, or_left, or_right, lt-ltb)
 
 -- only an update writes m
 pub effect_keeps_m : (c : Configuration) (i : ℕ) (r : Rule) → r ≢ Rule.Update → (effect c i r).m ≡ c.m i
-effect_keeps_m c i Rule.Update other = absurd (other refl)
-effect_keeps_m c i _ other = refl
+effect_keeps_m c i r other = grind (arith, nat_tests)
 
 -- the guard of a rule holds exactly if the rule may be applied
 pub guard-means : (c : Configuration) (i : ℕ) (r : Rule) → IsLawful c → (guard c i r ≡ true) ↔ MayApply c i r
-guard-means c i r l = (guard-to c i r l, guard-back c i r l)
-
-privileged-to : (c : Configuration) (i : ℕ) → is_privileged c i ≡ true → (r : Rule) × (guard c i r ≡ true)
-privileged-to c i h = grind (arith, false≢true, kind-guard)
+guard-means c i r l = (grind (arith, both_ways, not-true, right-back, and_parts, is_none, right-to, none-null, holds-true, suitor-back, some-to, nat_lt, false≢true, holds-from, or_cases, ltb-true), guard-back c i r l)
 
 -- `is_privileged` is true exactly if the guard of some rule holds at the node
 pub privileged-means : (c : Configuration) (i : ℕ) → IsLawful c → (is_privileged c i ≡ true) ↔ ((r : Rule) × (guard c i r ≡ true))
-privileged-means c i l = (privileged-to c i, λ g. ap is_some (guard-kind c i g.0 l g.1))
+privileged-means c i l = (grind (arith, false≢true, kind-guard), λ g. ap is_some (guard-kind c i g.0 l g.1))

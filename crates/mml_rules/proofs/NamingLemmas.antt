@@ -1,5 +1,5 @@
 -- If nodes get other names in the same order, guards and effects stay the same.
-use Rattle.std.proofs.Common.{◌≡◌, ℕ, ◌<◌, Bool, true, false, not, ◌&&◌, ◌||◌, eqb, ltb, Option, None, Some, is_some, is_none, sym, refl, ap, ◌∙◌, arith, inl, inr}
+use Rattle.std.proofs.Common.{◌≡◌, ℕ, ◌<◌, Bool, true, false, not, ◌&&◌, ◌||◌, ltb, Option, None, Some, is_some, is_none, sym, refl, ap, ◌∙◌, arith, inl, inr}
 use Rattle.std.specs.{Bool.beq, Option.option_map_or}
 use Rattle.std.proofs.lemmas.Bool.{cases_order, cases_eq, eq-eqb, ne_eqb, lt-ltb, le-ltb, and_parts, both_ways, false_from_ne_true}
 use Rattle.mml_ids.specs.Search.{some_below, greatest_below}
@@ -13,14 +13,11 @@ module _ (f : ℕ → ℕ) (c d : Configuration) (l : IsLawful c) (r : IsRenamed
   pub apart : (i j : ℕ) → i < c.size → j < c.size → f i ≡ f j → i ≡ j
   apart i j a b e = grind (arith, cases_order)
 
-  eqb_named : (i j : ℕ) → i < c.size → j < c.size → eqb (f i) (f j) ≡ eqb i j
-  eqb_named i j a b = grind (arith, cases_eq, eq-eqb, ne_eqb, apart)
-
   ltb_named : (i j : ℕ) → i < c.size → j < c.size → ltb (f i) (f j) ≡ ltb i j
   ltb_named i j a b = grind (arith, cases_order, le-ltb, lt-ltb)
 
   points_named : (k i : ℕ) → k < c.size → i < c.size → holds (d.p (f k)) (f i) ≡ holds (c.p k) i
-  points_named k i a b = grind (arith, eqb_named, pointee_in)
+  points_named k i a b = grind (arith, cases_eq, eq-eqb, ne_eqb, apart, pointee_in)
 
   null_named : (o : Option ℕ) → is_none (renamed f o) ≡ is_none o
   null_named o = grind arith

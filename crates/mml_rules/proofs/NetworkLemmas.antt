@@ -7,10 +7,6 @@ use Rattle.mml_rules.specs.declared.regs.Regs.{Regs}
 use Rattle.mml_rules.specs.Network.{Network, neighbours_at, registers_at, configuration_of, IsNetwork, with_neighbour, without_neighbour, unpointed, with_registers, with_link, without_link}
 use Rattle.std.specs.FinSet as sets
 
-pub neighbours_at-set : (neighbours : List (FinSet nat_cmp)) (a i : ℕ) (s : FinSet nat_cmp) → a < length neighbours
-    → neighbours_at (set neighbours a s) i ≡ cond (eqb i a) s (neighbours_at neighbours i)
-neighbours_at-set neighbours a i s l = grind (arith, cases_eq, get_or-set_same, eq-eqb, get_or-set_other, ne_eqb)
-
 -- after node a gets the registers r, a has r, and all other nodes have the same registers as before
 pub registers_at-set : (registers : List Regs) (a i : ℕ) (r : Regs) → a < length registers → registers_at (set registers a r) i ≡ cond (eqb i a) r (registers_at registers i)
 registers_at-set registers a i r l = grind (arith, cases_eq, get_or-set_same, eq-eqb, get_or-set_other, ne_eqb)
@@ -18,12 +14,12 @@ registers_at-set registers a i r l = grind (arith, cases_eq, get_or-set_same, eq
 -- after b is added to the neighbours of a, i has the neighbour j if it had j before, or if i is a and j is b
 pub has-with_neighbour : (neighbours : List (FinSet nat_cmp)) (a b i j : ℕ) → a < length neighbours
     → sets.contains (neighbours_at (with_neighbour neighbours a b) i) j ≡ ((eqb i a && eqb j b) || sets.contains (neighbours_at neighbours i) j)
-has-with_neighbour neighbours a b i j l = grind (arith, neighbours_at-set, has_insert, eqb-true)
+has-with_neighbour neighbours a b i j l = grind (arith, cases_eq, get_or-set_same, eq-eqb, get_or-set_other, ne_eqb, has_insert, eqb-true)
 
 -- after b is removed from the neighbours of a, i has the neighbour j if it had j before, unless i is a and j is b
 pub has-without_neighbour : (neighbours : List (FinSet nat_cmp)) (a b i j : ℕ) → a < length neighbours
     → sets.contains (neighbours_at (without_neighbour neighbours a b) i) j ≡ (not (eqb i a && eqb j b) && sets.contains (neighbours_at neighbours i) j)
-has-without_neighbour neighbours a b i j l = grind (arith, neighbours_at-set, has_remove, eqb-true)
+has-without_neighbour neighbours a b i j l = grind (arith, cases_eq, get_or-set_same, eq-eqb, get_or-set_other, ne_eqb, has_remove, eqb-true)
 
 -- adding a neighbour keeps the number of rows, one for each node
 pub length-with_neighbour : (neighbours : List (FinSet nat_cmp)) (a b : ℕ) → length (with_neighbour neighbours a b) ≡ length neighbours

@@ -1,5 +1,6 @@
 -- The lines that were answered so far, and how the session may end after them. A talk has the answered lines of a
 -- session, with their replies. The known participant is the one whose hello was granted.
+use Rattle.std.proofs.lemmas.Bool.Decides.{nat_tests}
 use Rattle.std.proofs.Common.{◌≡◌, ◌⊎◌, inl, inr, ℕ, ◌<◌, ◌≤◌, List, [], ◌∷◌, ◌++◌, length, take, refl, sym, ◌∙◌, ap, append_assoc, append-nil, arith, Option, subst}
 use Rattle.std.{proofs.KnownBytes.Appends-trans, proofs.KnownBytes.Consumes-trans, specs.Io.KnownBytes.Consumes, specs.Io.KnownBytes.Appends, specs.Io.KnownBytes.prepend_known}
 use Rattle.mml_lab.specs.{declared.who.Who.Who, Labs.LabValue}
@@ -119,12 +120,6 @@ module _ {number : ℕ} {lab : LabValue} {old : WindowValue} {st : Standing} {be
   all_given o none fin =
       let es = left_at after.window in records_trans number x y o (entries_of so.talk) es so.recorded (records_trans number y z o [] es none fin)
 
-  last_given : (o : Option Kept) (t : LineTurn lab so.talk.end after) → Records number y z (line_entries t) → Records number z o (left_at after.window)
-      → Records number x o (entries_of so.talk ++ (line_entries t ++ left_at after.window))
-  last_given o t more fin =
-      let es = left_at after.window in
-      records_trans number x y o (entries_of so.talk) (line_entries t ++ es) so.recorded (records_trans number y z o (line_entries t) es more fin)
-
   -- if the buffered bytes were written, the session ended as `end` states
   told_so : (end : SessionEnd) (e : Option (List ℕ)) (o : Option Kept) → ServesNext (next.Ended end) number lab st after a unread left held held' c d y z
       → Appends d e held' → Records number z o (left_at after.window) → EndedRecorded end st.known number lab old after.window input left wrote e x o
@@ -154,11 +149,11 @@ module _ {number : ℕ} {lab : LabValue} {old : WindowValue} {st : Standing} {be
       let put : Appends wrote d (bytes_written so.talk ++ line_written one.0) =
       subst (λ (t : List ℕ). Appends wrote d t) (flat_longer (reply_line lab.ids lab.roster) so.talk.replies one.0.reply)
       (back_out lab wrote c d (so.talk.replies ++ one.0.reply ∷ []) (held ++ line_written one.0) (held_with one.0) one.5) in
-      ((unread, last_so (λ line. line) one.0 one.2 put one.4 out, one.1, one.3), knew, last_given o one.0 one.6 fin)
+      ((unread, last_so (λ line. line) one.0 one.2 put one.4 out, one.1, one.3), knew, grind (arith, nat_tests, records_trans))
   told_so ends.WriteFault e o serves out fin =
       let one = from_end (next.Ended ends.WriteFault) serves in
       let off = back_off lab wrote c d so.talk.replies held one.0.reply so.appended so.few one.4 in
-      ((unread, off.0, last_so (take off.0) one.0 one.1 off.2 one.3 out, off.1, one.2, off.3), knew, last_given o one.0 one.5 fin)
+      ((unread, off.0, last_so (take off.0) one.0 one.1 off.2 one.3 out, off.1, one.2, off.3), knew, grind (arith, nat_tests, records_trans))
 
   -- if the write of the buffered bytes broke off, the session ended by a failed write, after the last line that was
   -- answered

@@ -1,4 +1,5 @@
 -- Replies that are buffered, and then written together.
+use Rattle.std.proofs.lemmas.Bool.Decides.{nat_tests}
 use Rattle.std.proofs.Common.{◌≡◌, ◌≢◌, inl, inr, ℕ, ◌+◌, ◌-◌, ◌<◌, ◌≤◌, List, [], ◌∷◌, ◌++◌, length, take, drop, false, refl, sym, ◌∙◌, ap, append_assoc, append-nil, length-append, length-drop, take-append-drop, arith, subst, Option, Some}
 use Rattle.std.{proofs.Math.Seq.take-append-add, proofs.KnownBytes.Appends-nil, proofs.KnownBytes.Appends-trans, proofs.lemmas.List.Concat.flat_map-append, specs.Io.KnownBytes.Appends, specs.List.AllByRecursion}
 use Rattle.mml_lab.specs.{Labs.LabValue}
@@ -52,22 +53,13 @@ module _ (lab : LabValue) where
   none_back a held none = record { flushed = []; buffered = []; parts = refl; lines = none; written = Appends-nil a }
 
   -- the lines of all replies are those that are written, and then those that are buffered
-  all_lines : (a b : Option (List ℕ)) (rs : List Reply) (held : List ℕ) (h : HoldsBack lab a b rs held)
-      → reply_lines lab rs ≡ reply_lines lab h.flushed ++ held
-  all_lines a b rs held h =
-      ap (λ (l : List Reply). reply_lines lab l) h.parts ∙ (flat_map-append (reply_line lab.ids lab.roster) h.flushed h.buffered
-      ∙ ap (λ l. reply_lines lab h.flushed ++ l) (sym h.lines))
+  all_lines : (a b : Option (List ℕ)) (rs : List Reply) (held : List ℕ) (h : HoldsBack lab a b rs held) → reply_lines lab rs ≡ reply_lines lab h.flushed ++ held
+  all_lines a b rs held h = grind (arith, nat_tests, flat_map-append)
 
   -- if one more reply's line is added to the buffer, the buffer still has the lines of the last replies
   pub back_more : (a b : Option (List ℕ)) (rs : List Reply) (held : List ℕ) (r : Reply) → HoldsBack lab a b rs held
       → HoldsBack lab a b (rs ++ r ∷ []) (held ++ reply_line lab.ids lab.roster r)
-  back_more a b rs held r h = record {
-    flushed = h.flushed;
-    buffered = h.buffered ++ r ∷ [];
-    parts = ap (λ l. l ++ r ∷ []) h.parts ∙ append_assoc h.flushed h.buffered (r ∷ []);
-    lines = ap (λ l. l ++ reply_line lab.ids lab.roster r) h.lines ∙ sym (flat_longer (reply_line lab.ids lab.roster) h.buffered r);
-    written = h.written;
-  }
+  back_more a b rs held r h = grind (arith, nat_tests, append_assoc, flat_longer)
 
   -- if the buffered lines are written, the lines of all replies are written
   pub back_out : (a b c : Option (List ℕ)) (rs : List Reply) (held : List ℕ) → HoldsBack lab a b rs held → Appends b c held → Appends a c (reply_lines lab rs)
@@ -94,8 +86,7 @@ module _ (lab : LabValue) where
 
   -- if the write of the buffered lines broke off, there are lines of replies
   pub back_some : (a b c : Option (List ℕ)) (rs : List Reply) (held : List ℕ) → HoldsBack lab a b rs held → BreaksOff b c held → reply_lines lab rs ≢ []
-  back_some a b c rs held h k none =
-      omega (arith, k.1, ap length none, ap length (all_lines a b rs held h), length-append (reply_lines lab h.flushed) held)
+  back_some a b c rs held h k none = omega (arith, k.1, ap length none, ap length (all_lines a b rs held h), length-append (reply_lines lab h.flushed) held)
 
   -- if the flush of the buffered lines and of one more reply's line broke off, `BreaksLast` is true for this reply
   pub back_off : (a b c : Option (List ℕ)) (rs : List Reply) (held : List ℕ) (r : Reply) → HoldsBack lab a b rs held → length held ≤ HELD_BYTES
@@ -108,13 +99,7 @@ module _ (lab : LabValue) where
         n.0,
         n.1,
         n.2,
-        record {
-          flushed = h.flushed;
-          buffered = h.buffered;
-          parts = h.parts;
-          whole = n.3;
-          few = subst (λ (t : List ℕ). length t ≤ HELD_BYTES) h.lines few;
-        },
+        record { flushed = h.flushed; buffered = h.buffered; parts = h.parts; whole = n.3; few = subst (λ (t : List ℕ). length t ≤ HELD_BYTES) h.lines few },
       )
 
   -- if the flush of the buffered lines broke off, and `last` is the last of their replies, `BreaksLast` is true for it

@@ -1,7 +1,7 @@
 -- If memory runs out for the line of a reply that isn't short, the refusal `memory` is sent instead. The place of an
 -- event is its number in the list of events, from 1. A window is what a session has seen of this list, and the places
 -- of the events that were granted to it.
-use Rattle.std.proofs.Common.{◌≡◌, ◌⊎◌, ℕ, true, false, true≢false, List, [], ◌++◌, Option, refl, sym, ap, ◌∙◌, subst, inl, inr, append-nil, Result, ◌+◌, ◌-◌, length, arith}
+use Rattle.std.proofs.Common.{◌≡◌, ◌⊎◌, ℕ, true, false, true≢false, List, [], ◌++◌, Option, refl, sym, ap, ◌∙◌, subst, inl, inr, append-nil, Result, ◌+◌, ◌-◌, arith}
 use Rattle.std.proofs.lemmas.Bool.Decides.{nat_tests}
 use Rattle.mml_lab.specs.{declared.who.Who.Who, Labs.LabValue}
 use Rattle.mml_board.specs.{declared.event.Event.Event, World.World, Lists.world_in}
@@ -11,7 +11,7 @@ use Rattle.mml_codec.specs.declared.{request.LineFault.LineFault, request.Reques
 use Rattle.mml_codec.specs.{Greetings.greeting, Replies.is_short, Replies.TellsFor, Rulings.reply_of, Rulings.reply_of_done}
 use Rattle.mml_codec.proofs.RulingsLemmas.{short_done}
 use Rattle.mml_window.specs.{Rulings.ruling_at, Windows.WindowValue, Windows.HasSeen}
-use Rattle.mml_session.specs.Turns.{Standing, entered, places_in, halts_in, spare_in, MayRefuse, Plainly, Refuses, Told, Settles, Asked, Turn}
+use Rattle.mml_session.specs.Turns.{Standing, entered, places_in, MayRefuse, Plainly, Refuses, Told, Settles, Asked, Turn}
 use Rattle.mml_session.proofs.EngineLemmas.{turn_does}
 use Rattle.mml_codec.specs.declared.request.Request.TheVariants as requests
 use Rattle.mml_codec.specs.declared.reply.Refused.TheVariants as refused
@@ -33,13 +33,6 @@ long_refused w l ps r new (Granted e done) long same at =
     let v = after_ruling w (Granted e done) in long_not_short r (reply_of_done v.number v.place done) long same (short_done v.number v.place done)
 long_refused w l ps r new _ long same at = long_not_short r _ long same refl
 
--- a reply that isn't short isn't the refusal `journal`
-long_unhalted : (r : Reply) → is_short r ≡ false → halts_in r ≡ 0
-long_unhalted r long = grind (arith, nat_tests)
-
-long_unspared : (n : ℕ) (r : Reply) → is_short r ≡ false → spare_in n r ≡ 0
-long_unspared n r long = grind (arith, nat_tests)
-
 module _ (lab : LabValue) where
   told_memory : (old new : WindowValue) (who : Who) (c : Command) (r : Reply) → is_short r ≡ false → Told lab old who c r new
       → Told lab old who c (replies.Refuse refused.Memory) new
@@ -48,8 +41,8 @@ module _ (lab : LabValue) where
     later = t.later;
     legal = t.legal;
     says = inr (says t.says);
-    counted = omega (arith, t.counted, long_unhalted r long);
-    spared = omega (arith, t.spared, long_unspared (lab.events - length new.seen) r long);
+    counted = grind (arith, t.counted, nat_tests);
+    spared = grind (arith, t.spared, nat_tests);
     unhalted = tt;
   }
     where
@@ -68,10 +61,8 @@ module _ (lab : LabValue) where
     | inr t ↦ inl (
         subst (λ (q : Result Request LineFault). Asked lab st q (replies.Refuse refused.Memory) next) (sym t.asked)
         (subst (λ (k : Option Who). Settles lab st (greeting lab.roster k (requests.Do t.command)) (replies.Refuse refused.Memory) next) (sym t.by)
-        (t.still, told_memory st.window next.window t.who t.command r long t.told))
-        )
+        (t.still, told_memory st.window next.window t.who t.command r long t.told)))
   ]
 
   pub turn_told : (st next : Standing) (line : List ℕ) (r told : Reply) → TellsFor r told → Turn lab st line r next → Turn lab st line told next
-  turn_told st next line r told (inl same) t = subst (λ (q : Reply). Turn lab st line q next) (sym same) t
-  turn_told st next line r told (inr h) t = subst (λ (q : Reply). Turn lab st line q next) (sym h.1) (turn_memory st next line r h.0 t)
+  turn_told st next line r told h5 t = grind (arith, nat_tests, turn_memory)

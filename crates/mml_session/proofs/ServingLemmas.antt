@@ -1,6 +1,6 @@
 -- The result of a line, concluded from the contracts of the functions that read it and answer it.
-use Rattle.std.proofs.Common.{◌≡◌, ◌≢◌, ℕ, ◌+◌, ◌-◌, ◌*◌, ◌<◌, ◌≤◌, arith, true, true≢false, List, [], ◌++◌, length, sym, refl, Option, Result, Ok, Err, subst}
-use Rattle.std.{proofs.Math.Nat.lt_of_not-le, specs.Io.KnownBytes.Consumes, specs.Io.KnownBytes.prepend_known}
+use Rattle.std.{proofs.lemmas.Bool.Decides.nat_tests, proofs.Math.Nat.lt_of_not-le, specs.Io.KnownBytes.Consumes, specs.Io.KnownBytes.prepend_known}
+use Rattle.std.proofs.Common.{◌≡◌, ◌≢◌, ℕ, ◌+◌, ◌-◌, ◌*◌, ◌<◌, ◌≤◌, arith, true, List, [], ◌++◌, length, sym, Option, Result, Ok, Err, subst}
 use Rattle.mml_lab.specs.Labs.{LabValue}
 use Rattle.mml_ids.specs.Lines.{ended}
 use Rattle.mml_lines.specs.{LinesOf.IsWithinLimit, declared.lines.TheConstants.READ_SIZE}
@@ -14,8 +14,7 @@ taken_by : (a b : Option (List ℕ)) (line line' : List ℕ) → Consumes a b (e
 taken_by a b line line' taken same = subst (λ (t : List ℕ). Consumes a b (ended t)) (sym same) taken
 
 bye_is : (r : Reply) → is_bye r ≡ true → r ≡ replies.Bye
-bye_is replies.Bye is = refl
-bye_is _ is = absurd (true≢false (sym is))
+bye_is r is = grind (arith, nat_tests)
 
 -- A line that isn't too long was read. The bytes after it that were read too are held, and are fewer than one read may
 -- bring.
@@ -35,14 +34,9 @@ module _ (number : ℕ) (lab : LabValue) (st after : Standing) (a left c d : Opt
 pub unread_before : (limit old new old_reads new_reads taken : ℕ) (unread unsent : List ℕ) → (IsWithinLimit limit unread → unsent ≡ [])
     → (old_reads < new_reads → IsWithinLimit limit unread) → old_reads ≤ new_reads → taken + new ≤ old + READ_SIZE * (new_reads - old_reads)
     → old < READ_SIZE → unsent ≢ [] → taken + new < READ_SIZE
-unread_before limit old new old_reads new_reads taken unread unsent out needed grow counted few some =
-    let still : new_reads < old_reads + 1 = lt_of_not-le (λ read. some (out (needed (omega (arith, read))))) in omega (arith, grow, counted, few, still)
+unread_before limit old new old_reads new_reads taken unread unsent out needed grow counted few some = grind (arith, nat_tests, lt_of_not-le)
 
 -- if the buffered bytes and a reply's line after them are sent together, the reply was sent after the buffered bytes
 pub sent_behind : (said : Sent) (r : Reply) (unsent whole bytes unsent' : List ℕ) (wrote wrote' : Option (List ℕ)) → bytes ≡ unsent ++ whole
     → SendsReply said r bytes [] unsent' wrote wrote' → SendsReply said r whole unsent unsent' wrote wrote'
-sent_behind said r unsent whole bytes unsent' wrote wrote' e h = behind said (subst (λ (t : List ℕ). SendsReply said r t [] unsent' wrote wrote') e h)
-  where
-    behind : (said : Sent) → SendsReply said r (unsent ++ whole) [] unsent' wrote wrote' → SendsReply said r whole unsent unsent' wrote wrote'
-    behind says.Told h = h
-    behind _ h = h
+sent_behind said r unsent whole bytes unsent' wrote wrote' e h = grind (arith, nat_tests)

@@ -1,12 +1,9 @@
 -- The line of a reply has at least 16 bytes, unless it is the reply to a bye.
-use Rattle.std.proofs.Common.{◌≡◌, ℕ, ◌+◌, ◌*◌, ◌≤◌, false, true≢false, List, [], ◌∷◌, ◌++◌, length, codes, decimal, map, length-append, arith, subst, Option, None, Some}
-use Rattle.std.specs.List.{AllByRecursion}
+use Rattle.std.{proofs.lemmas.Bool.Decides.nat_tests, specs.List.AllByRecursion}
+use Rattle.std.proofs.Common.{◌≡◌, ℕ, ◌+◌, ◌*◌, ◌≤◌, false, true≢false, List, [], ◌∷◌, ◌++◌, length, codes, length-append, arith, Option}
 use Rattle.mml_lab.specs.{Labs.LabValue, Rosters.RosterValue}
-use Rattle.mml_ids.specs.Pieces.{truth_text}
-use Rattle.mml_board.specs.declared.denial.Denial.{Denial}
-use Rattle.mml_board.specs.{Denials.clause_of, Denials.text_of, Denials.denial_name}
-use Rattle.mml_codec.specs.declared.{reply.Refused.Refused, reply.Reply.Reply}
-use Rattle.mml_codec.specs.Facts.{Fact, Fields, fact_then, fields_after, kind_text, kind_or_null, list_then, members, near_text, node_text, object_text, open_link_text, pair_text, pointer_text, privileged_text, separated}
+use Rattle.mml_board.specs.{declared.denial.Denial.Denial, Denials.clause_of, Denials.text_of, Denials.denial_name}
+use Rattle.mml_codec.specs.{declared.reply.Refused.Refused, declared.reply.Reply.Reply, Facts.Fact, Facts.Fields, Facts.fact_then, Facts.fields_after, Facts.object_text}
 use Rattle.mml_codec.specs.Replies.{current_number, fields_of, number_first, reply_line, told_fields}
 use Rattle.mml_session.specs.{declared.held.TheConstants.HELD_BYTES, Talks.reply_lines, Turns.is_bye}
 use Rattle.mml_codec.specs.Facts as fact
@@ -18,27 +15,8 @@ abbrev least : Fact → ℕ
 least (fact.word w) = 2 + length w
 least _ = 0
 
-list_least : (texts : List (List ℕ)) (rest : List ℕ) → length rest ≤ length (list_then texts rest)
-list_least texts rest = omega (arith, length-append (separated texts) (codes "]" ++ rest))
-
-text_before : (text rest : List ℕ) → length rest ≤ length (text ++ rest)
-text_before text rest = omega (arith, length-append text rest)
-
 value_least : (ids : List ℕ) (f : Fact) (rest : List ℕ) → least f + length rest ≤ length (fact_then ids f rest)
-value_least ids (fact.count n) rest = omega (arith, text_before (decimal n) rest)
-value_least ids (fact.clause n) rest = omega (arith, text_before (decimal n) rest)
-value_least ids (fact.word w) rest = omega (arith, length-append w (codes "\"" ++ rest))
-value_least ids (fact.truth b) rest = omega (arith, text_before (truth_text b) rest)
-value_least ids (fact.node i) rest = omega (arith, text_before (node_text ids i) rest)
-value_least ids (fact.pointer p) rest = omega (arith, text_before (pointer_text ids p) rest)
-value_least ids (fact.rule k) rest = omega (arith, text_before (kind_text k) rest)
-value_least ids (fact.rule_or_null k) rest = omega (arith, text_before (kind_or_null k) rest)
-value_least ids (fact.moved s) rest = omega (arith, list_least (map (node_text ids) (members (length ids) s)) rest)
-value_least ids (fact.nodes is) rest = omega (arith, list_least (map (node_text ids) is) rest)
-value_least ids (fact.near ns) rest = omega (arith, list_least (map (near_text ids) ns) rest)
-value_least ids (fact.pairs ps) rest = omega (arith, list_least (map (pair_text ids) ps) rest)
-value_least ids (fact.privileged ns) rest = omega (arith, list_least (map (privileged_text ids) ns) rest)
-value_least ids (fact.open_links ls) rest = omega (arith, list_least (map (open_link_text ids) ls) rest)
+value_least ids f rest = grind (arith, nat_tests, length-append)
 
 -- how many bytes fields have at least: each key with its quotes and the colon, each value, and the closing brace
 abbrev least_of : Fields → ℕ
@@ -62,8 +40,7 @@ unfolding object_text
 object_least ids fs = omega (arith, fields_least ids [] fs, length-append (codes "{" ++ fields_after ids [] fs) (10 ∷ []))
 
 number_least : (at : Option ℕ) (fs : Fields) → least_of fs ≤ least_of (number_first at fs)
-number_least None fs = omega arith
-number_least (Some at) fs = omega arith
+number_least at fs = grind (arith, nat_tests)
 
 deny_least : (ids : List ℕ) (d : Denial) (fs : Fields) → least_of fs + 2 ≤ length (object_text ids (number_first (current_number d) fs) ++ 10 ∷ [])
 deny_least ids d fs = omega (arith, object_least ids (number_first (current_number d) fs), number_least (current_number d) fs)
@@ -96,12 +73,7 @@ module _ (ids : List ℕ) (roster : RosterValue) where
 lines_least : (lab : LabValue) (rs : List Reply) → AllByRecursion (λ r. is_bye r ≡ false) rs → 16 * length rs ≤ length (reply_lines lab rs)
 lines_least lab [] all = omega arith
 lines_least lab (r ∷ rs) all =
-    omega (
-      arith,
-      length-append (reply_line lab.ids lab.roster r) (reply_lines lab rs),
-      line_least lab.ids lab.roster r all.0,
-      lines_least lab rs all.1,
-    )
+    omega (arith, length-append (reply_line lab.ids lab.roster r) (reply_lines lab rs), line_least lab.ids lab.roster r all.0, lines_least lab rs all.1)
 
 each_later : {A : Type 0} (P : A → Type 0) (xs ys : List A) → AllByRecursion P (xs ++ ys) → AllByRecursion P ys
 each_later P [] ys all = all
@@ -110,6 +82,4 @@ each_later P (x ∷ xs) ys all = each_later P xs ys all.1
 -- a buffer of at most `HELD_BYTES` bytes has at most 512 lines
 pub few_lines : (lab : LabValue) (rs flushed buffered : List Reply) → rs ≡ flushed ++ buffered → AllByRecursion (λ r. is_bye r ≡ false) rs
     → length (reply_lines lab buffered) ≤ HELD_BYTES → length buffered ≤ 512
-few_lines lab rs flushed buffered parts all few =
-    let each = each_later (λ r. is_bye r ≡ false) flushed buffered (subst (λ (l : List Reply). AllByRecursion (λ r. is_bye r ≡ false) l) parts all) in
-    omega (arith, lines_least lab buffered each, few)
+few_lines lab rs flushed buffered parts all few = grind (arith, nat_tests, each_later, lines_least)

@@ -1,24 +1,20 @@
 -- The window after a talk, and the lines that the talk has answered. The place of an event is its number in the list of
 -- events, from 1. A window is what a session has seen of this list, and the places of the events that were granted to
 -- it.
-use Rattle.std.proofs.lemmas.Bool.Decides.{nat_tests}
-use Rattle.std.proofs.Common.{◌≡◌, ℕ, ◌+◌, ◌-◌, length, arith, Result, Ok, Err, List, [], ◌∷◌, ◌++◌, flat_map, sym, ◌∙◌, ap, append_assoc, append-nil, subst, inl, inr, All, Option}
-use Rattle.std.{specs.Prelude.IfSome, specs.List.AllByRecursion, proofs.lemmas.List.Elements.All-nil, proofs.lemmas.List.Elements.All-cons}
+use Rattle.std.{proofs.lemmas.Bool.Decides.nat_tests, specs.Prelude.IfSome, specs.List.AllByRecursion, proofs.lemmas.List.Elements.All-nil, proofs.lemmas.List.Elements.All-cons}
+use Rattle.std.proofs.Common.{◌≡◌, ℕ, ◌+◌, ◌-◌, length, arith, List, [], ◌∷◌, ◌++◌, flat_map, sym, ◌∙◌, ap, append_assoc, append-nil, subst, inl, inr, All, Option}
 use mathlib.Core.List.{IsPrefix}
 use Rattle.mml_lab.specs.{declared.who.Who.Who, Labs.LabValue}
 use Rattle.mml_ids.specs.Lines.{IsUnbroken}
 use Rattle.mml_lines.specs.LinesOf.{IsWithinLimit, lines_of}
 use Rattle.mml_lines.proofs.{RunsLemmas.by_steps, RunsLemmas.run_keeps, LinesOfLemmas.all_lines, LinesOfLemmas.lines_first}
 use Rattle.mml_policy.specs.declared.command.Command.{Command}
-use Rattle.mml_codec.specs.{declared.TheConstants.MAX_REQUEST, declared.reply.Reply.Reply, declared.request.LineFault.LineFault, declared.request.Request.Request, Replies.as_list, Replies.place_in}
-use Rattle.mml_codec.specs.{declared.greeting.Greeting.Greeting, declared.greeting.Greeting.TheVariants.Answered, declared.greeting.Greeting.TheVariants.LeftToJudge, Greetings.greeting, Greetings.refusal_of, Lines.request_in}
+use Rattle.mml_codec.specs.{declared.TheConstants.MAX_REQUEST, declared.reply.Reply.Reply, Replies.as_list, Replies.place_in, declared.greeting.Greeting.Greeting}
 use Rattle.mml_window.specs.Windows.{WindowValue}
 use Rattle.mml_window.proofs.PrefixLemmas.{prefix_self, prefix_trans}
-use Rattle.mml_session.specs.Turns.{Standing, places_in, halts_in, halts_of, spare_in, Told, Settles, Asked, Turn}
-use Rattle.mml_session.specs.Talks.{Talk, LineTurn, bytes_read}
+use Rattle.mml_session.specs.{Turns.Standing, Turns.places_in, Turns.halts_in, Turns.halts_of, Turns.spare_in, Turns.Told, Turns.Settles, Turns.Turn, Talks.Talk, Talks.LineTurn, Talks.bytes_read}
 use Rattle.mml_session.proofs.{EngineLemmas.seen_told, EngineLemmas.turn_does, GreetingLemmas.IsPlain, GreetingLemmas.plain_greeting}
 use Rattle.mml_engine.proofs.NamingLemmas as naming
-use Rattle.mml_codec.specs.declared.reply.Reply.TheVariants as replies
 
 -- the window's places are the old ones, and then those that the reply names; the window has seen all that it had seen
 -- before
@@ -28,18 +24,12 @@ pub record WentOn (old new : WindowValue) (r : Reply) : Type 0 where
 
 -- if a reply names no place, and the window stays as it was, `WentOn` holds
 stays : (old new : WindowValue) (r : Reply) → new ≡ old → places_in r ≡ [] → WentOn old new r
-stays old new r same none = record {
-  places = ap (λ (w : WindowValue). w.places) same ∙ (sym (append-nil old.places) ∙ sym (ap (λ ps. old.places ++ ps) none));
-  seen = subst (λ (w : WindowValue). IsPrefix old.seen w.seen) (sym same) (prefix_self old.seen);
-}
+stays old new r same none = grind (arith, nat_tests, append-nil, prefix_self)
 
 module _ (lab : LabValue) where
   told_on : (old new : WindowValue) (who : Who) (c : Command) (r : Reply) → Told lab old who c r new → WentOn old new r
   told_on old new who c r t = record {
-    places = elim t.says [
-      | inl p ↦ p.1.1
-      | inr q ↦ q.3.1 ∙ (sym (append-nil old.places) ∙ sym (ap (λ (x : Reply). old.places ++ places_in x) q.1))
-    ];
+    places = elim t.says [ inl p ↦ p.1.1 | inr q ↦ q.3.1 ∙ (sym (append-nil old.places) ∙ sym (ap (λ (x : Reply). old.places ++ places_in x) q.1)) ];
     seen = naming.told_on lab old.seen new.seen who c r (seen_told lab old who c r new t);
   }
 
@@ -56,26 +46,8 @@ module _ (lab : LabValue) where
     | inr t ↦ t.told.unhalted
   ]
 
-  told_fault : (fault : LineFault) → halts_in (replies.Refuse (refusal_of fault)) ≡ 0
-  told_fault fault = grind (arith, nat_tests)
-
   same_count : (st next : Standing) (r : Reply) → next.window ≡ st.window → halts_in r ≡ 0 → next.window.halts ≡ st.window.halts + halts_in r
   same_count st next r same none = omega (arith, ap (λ (w : WindowValue). w.halts) same, none)
-
-  settled_count : (st next : Standing) (g : Greeting) (r : Reply) → IsPlain g → Settles lab st g r next → next.window.halts ≡ st.window.halts + halts_in r
-  settled_count st next (Answered q x) r plain h =
-      same_count st next r (ap (λ (s : Standing). s.window) h.1) (ap halts_in h.0 ∙ plain.2)
-  settled_count st next (LeftToJudge who c) r plain h = h.1.counted
-
-  asked_count : (st next : Standing) (asked : Result Request LineFault) (r : Reply) → Asked lab st asked r next
-      → next.window.halts ≡ st.window.halts + halts_in r
-  asked_count st next (Err fault) r h = same_count st next r (ap (λ (s : Standing). s.window) h.1) (ap halts_in h.0 ∙ told_fault fault)
-  asked_count st next (Ok q) r h = settled_count st next (greeting lab.roster st.known q) r (plain_greeting lab.roster st.known q) h
-
-  -- the window has counted the reply of a turn if it is the refusal `journal`
-  turn_count : (st next : Standing) (line : List ℕ) (r : Reply) → Turn lab st line r next → next.window.halts ≡ st.window.halts + halts_in r
-  turn_count st next line r (inl h) = asked_count st next (request_in line) r h
-  turn_count st next line r (inr h) = same_count st next r (ap (λ (s : Standing). s.window) h.1) (ap halts_in h.0)
 
   unhalted_unspared : (n : ℕ) (r : Reply) → halts_in r ≡ 0 → spare_in n r ≡ 0
   unhalted_unspared n r none = grind (arith, nat_tests)
@@ -83,32 +55,20 @@ module _ (lab : LabValue) where
   abbrev IsSpared : Standing → Reply → Standing → Type 0
   IsSpared st r next = next.window.spare ≡ st.window.spare + spare_in (lab.events - length next.window.seen) r
 
-  same_spare : (st next : Standing) (r : Reply) → next.window ≡ st.window → halts_in r ≡ 0 → IsSpared st r next
-  same_spare st next r same none = omega (arith, ap (λ (w : WindowValue). w.spare) same, unhalted_unspared (lab.events - length next.window.seen) r none)
-
   settled_spare : (st next : Standing) (g : Greeting) (r : Reply) → IsPlain g → Settles lab st g r next → IsSpared st r next
-  settled_spare st next (Answered q x) r plain h = same_spare st next r (ap (λ (s : Standing). s.window) h.1) (ap halts_in h.0 ∙ plain.2)
-  settled_spare st next (LeftToJudge who c) r plain h = h.1.spared
-
-  asked_spare : (st next : Standing) (asked : Result Request LineFault) (r : Reply) → Asked lab st asked r next → IsSpared st r next
-  asked_spare st next (Err fault) r h = same_spare st next r (ap (λ (s : Standing). s.window) h.1) (ap halts_in h.0 ∙ told_fault fault)
-  asked_spare st next (Ok q) r h = settled_spare st next (greeting lab.roster st.known q) r (plain_greeting lab.roster st.known q) h
-
-  turn_spare : (st next : Standing) (line : List ℕ) (r : Reply) → Turn lab st line r next → IsSpared st r next
-  turn_spare st next line r (inl h) = asked_spare st next (request_in line) r h
-  turn_spare st next line r (inr h) = same_spare st next r (ap (λ (s : Standing). s.window) h.1) (ap halts_in h.0)
+  settled_spare st next g r plain h = grind (arith, nat_tests, ap, unhalted_unspared)
 
   pub turn_spares : (st after : Standing) (t : LineTurn lab st after)
       → after.window.spare ≡ st.window.spare + spare_in (lab.events - length after.window.seen) t.reply
-  turn_spares st after t = turn_spare st after t.line t.reply t.turn
+  turn_spares st after t = grind (arith, nat_tests, settled_spare, plain_greeting, ap, unhalted_unspared)
 
   pub turn_halts : (st after : Standing) (t : LineTurn lab st after) → after.window.halts ≡ st.window.halts + halts_in t.reply
-  turn_halts st after t = turn_count st after t.line t.reply t.turn
+  turn_halts st after t = grind (arith, nat_tests, plain_greeting, same_count)
 
   pub talk_halts : (st : Standing) (t : Talk lab st) → t.end.window.halts ≡ st.window.halts + halts_of t.replies
   talk_halts st t =
       by_steps (Turn lab) (λ st ls rs end. end.window.halts ≡ st.window.halts + halts_of rs) (λ st. omega arith)
-      (λ st next end l r ls rs turn rest. omega (arith, rest, turn_count st next l r turn)) st t.end t.lines t.replies t.run
+      (λ st next end l r ls rs turn rest. grind (arith, rest, nat_tests, plain_greeting, same_count)) st t.end t.lines t.replies t.run
 
   pub turn_places : (st after : Standing) (t : LineTurn lab st after) → after.window.places ≡ st.window.places ++ places_in t.reply
   turn_places st after t = (turn_on st after t.line t.reply t.turn).places

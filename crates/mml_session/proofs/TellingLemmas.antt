@@ -1,7 +1,7 @@
 -- The reply to a command, made from the window's answer. The place of an event is its number in the list of events,
 -- from 1. A window is what a session has seen of this list, and the places of the events that were granted to it.
-use Rattle.std.{proofs.lemmas.Bool.Decides.nat_tests, specs.Prelude.IfSome}
-use Rattle.std.proofs.Common.{◌≡◌, ◌⊎◌, ℕ, List, [], ◌++◌, refl, sym, ap, ◌∙◌, subst, inl, inr, append-nil, Option, None, Some, ◌+◌, ◌-◌, length, arith}
+use Rattle.std.{proofs.lemmas.Bool.Decides.nat_tests}
+use Rattle.std.proofs.Common.{◌≡◌, ◌⊎◌, ℕ, List, [], ◌++◌, refl, sym, ap, ◌∙◌, subst, inl, inr, append-nil, Option, ◌+◌, ◌-◌, length, arith}
 use Rattle.mml_lab.specs.{declared.who.Who.Who, Labs.LabValue}
 use Rattle.mml_board.specs.{declared.event.Event.Event, declared.done.Done.Done, declared.denial.Denial.Denial, World.World, Events.after, Lists.world_in}
 use Rattle.mml_policy.specs.declared.{command.Command.Command, ruling.Ruling.Ruling}
@@ -20,10 +20,6 @@ done_unhalted number place done = grind (arith, nat_tests)
 
 done_unspared : (n number place : ℕ) (done : Done) → spare_in n (reply_of_done number place done) ≡ 0
 done_unspared n number place done = grind (arith, nat_tests)
-
-unhalted_at : (place : Option ℕ) {P : Type 0} → P → IfSome place (λ n. P)
-unhalted_at None h = tt
-unhalted_at (Some n) h = h
 
 -- if the window granted an event, the reply that names it is right
 pub granted_told : (lab : LabValue) (old new : WindowValue) (who : Who) (c : Command) (place number : ℕ) (done : Done)
@@ -48,7 +44,7 @@ granted_told lab old new who c place number done answers =
       ));
       counted = omega (arith, ap (λ (w : WindowValue). w.halts) answers.3.2, done_unhalted number place done);
       spared = omega (arith, ap (λ (w : WindowValue). w.spare) answers.3.2, done_unspared (lab.events - length new.seen) number place done);
-      unhalted = unhalted_at (place_in (reply_of_done number place done)) answers.3.3;
+      unhalted = grind (arith, nat_tests, place_in (reply_of_done number place done));
     }
 
 has_seen : (l : List Event) (ps : List ℕ) (new : WindowValue) {why : Option Refusal} {n m : ℕ} → new ≡ window_with l ps why n m → HasSeen l ps new
@@ -88,30 +84,7 @@ refused_says lab l old who c Memory new h =
     let kept = ap (λ (w : WindowValue). w.refused) h.1 in
     inr (subst (λ (ruled : Ruling). Refuses l old.places ruled (replies.Refuse refused.Memory) new) (sym h.0.2) (refused.Memory, refl, kept, has_seen l old.places new h.1))
 
--- if the window refused the command, it has counted the refusal `journal`
-refused_counted : (lab : LabValue) (l : List Event) (old : WindowValue) (who : Who) (c : Command) (why : Refusal) (new : WindowValue)
-    → Says lab l old who c (Refused why) new → new.halts ≡ old.halts + halts_in (replies.Refuse (refusal_for why))
-refused_counted lab l old who c Full new h = omega (arith, ap (λ (w : WindowValue). w.halts) h.2)
-refused_counted lab l old who c Journal new h = omega (arith, ap (λ (w : WindowValue). w.halts) h.1)
-refused_counted lab l old who c Memory new h = omega (arith, ap (λ (w : WindowValue). w.halts) h.1)
-
--- if the window refused the command, it has added how many more events the lab allows if the refusal is `journal`
-refused_spared : (lab : LabValue) (l : List Event) (old : WindowValue) (who : Who) (c : Command) (why : Refusal) (new : WindowValue)
-    → Says lab l old who c (Refused why) new → new.spare ≡ old.spare + spare_in (lab.events - length new.seen) (replies.Refuse (refusal_for why))
-refused_spared lab l old who c Full new h = omega (arith, ap (λ (w : WindowValue). w.spare) h.2)
-refused_spared lab l old who c Journal new h =
-    ap (λ (w : WindowValue). w.spare) h.1 ∙ ap (λ (s : List Event). old.spare + (lab.events - length s)) (sym (ap (λ (w : WindowValue). w.seen) h.1))
-refused_spared lab l old who c Memory new h = omega (arith, ap (λ (w : WindowValue). w.spare) h.1)
-
 -- if the window refused the command, this refusal is the right reply
 pub refused_told : (lab : LabValue) (old new : WindowValue) (who : Who) (c : Command) (why : Refusal)
     → Answers lab old who c (Refused why) new → Told lab old who c (replies.Refuse (refusal_for why)) new
-refused_told lab old new who c why answers = record {
-  list = answers.0;
-  later = answers.1;
-  legal = answers.2;
-  says = refused_says lab answers.0 old who c why new answers.3;
-  counted = refused_counted lab answers.0 old who c why new answers.3;
-  spared = refused_spared lab answers.0 old who c why new answers.3;
-  unhalted = tt;
-}
+refused_told lab old new who c why answers = grind (arith, nat_tests, refused_says)

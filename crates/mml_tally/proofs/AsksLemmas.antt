@@ -1,6 +1,6 @@
 -- Each line is counted for one student or for none, and the names of other students change no count. A clause is a
 -- condition under which a request is granted.
-use Rattle.std.proofs.Common.{◌≡◌, ℕ, ◌+◌, Bool, true, cond, ◌&&◌, eqb, List, [], ◌∷◌, map, Option, None, Some, is_some, is_none, option_map, ◌↔◌, refl, ◌∙◌, arith}
+use Rattle.std.proofs.Common.{◌≡◌, ℕ, ◌+◌, Bool, true, cond, ◌&&◌, eqb, List, [], ◌∷◌, map, Option, None, Some, is_none, option_map, ◌↔◌, refl, ◌∙◌, arith}
 use Rattle.std.{specs.Prelude.count_by, proofs.lemmas.Bool.cases_eq, proofs.lemmas.Bool.ne_eqb, proofs.lemmas.Bool.Decides.nat_tests}
 use Rattle.mml_convergence.specs.Potential.{sum_below}
 use Rattle.mml_convergence.proofs.SumsLemmas.{sum_zero, sum_split, sum_of_tests}
@@ -33,9 +33,6 @@ asks_sum test n (a ∷ asks) h =
 
 -- ---- each denied line was denied by one of the clauses 1 to 4
 
-one_clause : (d : Option ℕ) → is_numbered d ≡ true → one (is_clause 1 d) + one (is_clause 2 d) + one (is_clause 3 d) + one (is_clause 4 d) ≡ one (is_some d)
-one_clause d h = grind (arith, nat_tests)
-
 numbered : (s n : ℕ) (w : Option ℕ) (d : Option ℕ) → IsKnownOf n w d → is_student s w ≡ true → is_numbered d ≡ true
 numbered s n w d h b = grind (arith, nat_tests)
 
@@ -43,7 +40,7 @@ total_more : (a : Ask) (asks : List Ask) → is_numbered a.denied ≡ true → t
     → total_denied (denials_in (a ∷ asks)) ≡ count_by is_denied (a ∷ asks)
 total_more a asks h rest =
     let clause = λ (n : ℕ). more (λ (x : Ask). is_clause n x.denied) a asks in
-    omega (arith, rest, clause 1, clause 2, clause 3, clause 4, more is_denied a asks, one_clause a.denied h)
+    grind (arith, rest, clause 1, clause 2, clause 3, clause 4, more is_denied a asks, nat_tests)
 
 pub total_is : (s n : ℕ) (asks : List Ask) → AreAsksOf n asks → total_denied (denials_of asks s) ≡ count_by is_denied (asks_by s asks)
 total_is s n [] h = refl

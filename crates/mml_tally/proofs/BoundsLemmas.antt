@@ -3,10 +3,6 @@ use Rattle.std.proofs.Common.{◌≡◌, ◌⊎◌, inl, inr, ℕ, suc, ◌+◌,
 use Rattle.mml_convergence.specs.{Rounds.rounds_for, Courtships.most_courtships}
 use Rattle.mml_convergence.proofs.NumbersLemmas.{courtships_even, courtships_odd}
 
--- a number is twice its half, or one more
-halved : (n : ℕ) → (n ≡ 2 * (n / 2)) ⊎ (n ≡ 2 * (n / 2) + 1)
-halved n = grind arith
-
 at_half : (n k : ℕ) → (n ≡ 2 * k) ⊎ (n ≡ 2 * k + 1) → k * (n - k) ≡ most_courtships n
 at_half n k (inl even) = let rest : n - k ≡ k = omega (arith, even) in ap (λ z. k * z) rest ∙ sym (courtships_even k) ∙ ap most_courtships (sym even)
 at_half n k (inr odd) =
@@ -15,7 +11,7 @@ at_half n k (inr odd) =
     ap (λ z. k * z) rest ∙ grown ∙ sym (courtships_odd k) ∙ ap most_courtships (sym odd)
 
 pub halves_court : (n : ℕ) → n / 2 * (n - n / 2) ≡ most_courtships n
-halves_court n = at_half n (n / 2) (halved n)
+halves_court n = at_half n (n / 2) (grind arith)
 
 pub rounds_are : (n : ℕ) → 2 * n - n % 2 ≡ rounds_for n
 rounds_are (suc (suc n)) = omega (arith, rounds_are n)

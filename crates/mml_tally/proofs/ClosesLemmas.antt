@@ -75,13 +75,10 @@ rising_filter test n last (m ∷ ms) h = grind (arith, nat_tests, rising_less, (
 abbrev pub some_at : ℕ → List Move → Bool
 some_at q ms = list_any (is_applied_at q) ms
 
-at_close : (last q : ℕ) (f : Fate) → is_fate_at q f ≡ true → close_of last f ≡ q
-at_close last q f e = grind (arith, nat_tests, eqb-true)
-
 pub none_before : (n last q : ℕ) (ms : List Move) → Rising n last ms → some_at q ms ≡ true → last ≤ q
 none_before n last q [] h e = cc
 none_before n last q (m ∷ ms) h e = elim (or_cases (is_fate_at q m.fate) (some_at q ms) e) [
-  | inl here ↦ omega (arith, at_close last q m.fate here, h.0)
+  | inl here ↦ grind (arith, nat_tests, eqb-true, h.0)
   | inr later ↦ omega (arith, none_before n (close_of last m.fate) q ms h.2 later, h.0)
 ]
 

@@ -6,34 +6,27 @@ use Rattle.mml_board.specs.declared.event.Event.{Event}
 use Rattle.mml_convergence.specs.Potential.{sum_below}
 use Rattle.mml_convergence.proofs.SumsLemmas.{sum_zero, sum_split, sum_of_tests}
 use Rattle.mml_tally.specs.{declared.fate.Fate.Fate, declared.granted_move.Move.Move, Moves.ended_by, Moves.fate_of, Moves.moves_from}
-use Rattle.mml_tally.specs.Marks.{is_kind, is_fate_applied, is_applied, applied, by_rule, moves_by}
-use Rattle.mml_tally.specs.Meaning.{total, is_fate_released, is_fate_dropped, is_fate_left, is_released, is_dropped, is_left, asked_as}
+use Rattle.mml_tally.specs.{Marks.is_kind, Marks.is_applied, Marks.applied, Marks.by_rule, Marks.moves_by, Meaning.total, Meaning.is_released, Meaning.is_dropped, Meaning.is_left, Meaning.asked_as}
 use Rattle.mml_tally.proofs.{CountsLemmas.one, CountsLemmas.more, AppliedLemmas.only_one}
 use Rattle.mml_rules.specs.declared.rule.Kind.TheVariants as kind
 use Rattle.mml_board.specs.declared.event.Event.TheVariants as event
 
 -- ---- each move is of one kind of rule
 
-one_kind : (k : Kind) → one (is_kind kind.Update k) + one (is_kind kind.Marriage k) + one (is_kind kind.Seduction k) + one (is_kind kind.Abandonment k) ≡ 1
-one_kind k = grind arith
-
 pub total_is : (ms : List Move) → total (by_rule ms) ≡ length ms
 total_is [] = refl
 total_is (m ∷ ms) =
     let of = λ (k : Kind). more (λ (x : Move). is_kind k x.kind) m ms in
-    omega (arith, total_is ms, of kind.Update, of kind.Marriage, of kind.Seduction, of kind.Abandonment, one_kind m.kind)
+    grind (arith, total_is ms, of kind.Update, of kind.Marriage, of kind.Seduction, of kind.Abandonment)
 
 pub total_applied : (ms : List Move) → total (by_rule (applied ms)) ≡ count_by is_applied ms
 total_applied ms = total_is (applied ms) ∙ length-filter is_applied ms
 
 -- ---- each move has one fate
 
-one_fate : (f : Fate) → one (is_fate_applied f) + one (is_fate_released f) + one (is_fate_dropped f) + one (is_fate_left f) ≡ 1
-one_fate f = grind arith
-
 pub all_fates : (ms : List Move) → length ms ≡ count_by is_applied ms + count_by is_released ms + count_by is_dropped ms + count_by is_left ms
 all_fates [] = refl
-all_fates (m ∷ ms) = omega (arith, all_fates ms, more is_applied m ms, more is_released m ms, more is_dropped m ms, more is_left m ms, one_fate m.fate)
+all_fates (m ∷ ms) = grind (arith, all_fates ms, more is_applied m ms, more is_released m ms, more is_dropped m ms, more is_left m ms)
 
 -- ---- each move was asked for by one student
 

@@ -1,13 +1,13 @@
 -- If a node is privileged at the end of a run, the run has no more rounds than are counted: by the end of each of its
 -- rounds, one more counted round has ended.
 -- A node is served as soon as it has had its turn in a round. A node is privileged if some rule is enabled there.
-use Rattle.std.proofs.Common.{◌≡◌, ℕ, zero, suc, ◌+◌, ◌≤◌, Bool, true, false, not, cond, List, [], ◌∷◌, ◌++◌, refl, sym, ap, ◌∙◌, subst, arith, append_assoc}
-use Rattle.std.proofs.lemmas.Bool.{or_right, eq-eqb, not-true}
+use Rattle.std.proofs.lemmas.Bool.{Decides.nat_tests, or_right, eq-eqb, not-true}
+use Rattle.std.proofs.Common.{◌≡◌, ℕ, zero, suc, ◌+◌, ◌≤◌, Bool, true, false, cond, List, [], ◌∷◌, ◌++◌, refl, sym, ap, ◌∙◌, subst, arith, append_assoc}
 use Rattle.mml_rules.specs.Matching.{IsStable}
 use Rattle.mml_lab.specs.Rosters.{RosterValue}
-use Rattle.mml_board.specs.{declared.event.Event.Event, World.World, World.size, World.configuration, Events.after, Runs.world_of}
+use Rattle.mml_board.specs.{declared.event.Event.Event, World.World, World.configuration, Events.after, Runs.world_of}
 use Rattle.mml_board.proofs.RunsLemmas.{world_of-append}
-use Rattle.mml_convergence.specs.Rounds.{is_served, IsRound, Rounds}
+use Rattle.mml_convergence.specs.Rounds.{is_served, Rounds}
 use Rattle.mml_convergence.proofs.{SumsLemmas.count_none, RestLemmas.same_size, ServedLemmas.IsRun, ServedLemmas.run_parts, ServedLemmas.stable_end}
 use Rattle.mml_tally.specs.Rounds.{is_round, rounds_from, rounds_in}
 use Rattle.mml_tally.proofs.RoundsLemmas.{round_is}
@@ -17,10 +17,6 @@ use Rattle.mml_tally.proofs.RoundsLemmas.{round_is}
 served_earlier : (i : ℕ) (w : World) (es fs : List Event) → is_served i (world_of w es) fs ≡ true → is_served i w (es ++ fs) ≡ true
 served_earlier i w [] fs served = served
 served_earlier i w (e ∷ es) fs served = or_right _ _ (or_right _ _ (served_earlier i (after w e) es fs served))
-
-round_made : (w : World) (es fs : List Event) → IsRound (world_of w es) fs → is_round w (es ++ fs) ≡ true
-round_made w es fs round = eq-eqb _ 0 (count_none (size w) (λ i. not (is_served i w (es ++ fs))) (λ i lt.
-    let same = same_size w es in ap not (served_earlier i w es fs (round i (omega (arith, lt, same))))))
 
 -- ---- the first round that is counted
 
@@ -32,13 +28,7 @@ record Ends (w : World) (fs cs ds : List Event) : Type 0 where
   counted : rounds_from w fs (cs ++ ds) ≡ 1 + rounds_from (world_of w (fs ++ front)) [] (rest ++ ds)
 
 on_with : (w : World) (fs : List Event) (c : Event) (cs ds : List Event) → is_round w (fs ++ c ∷ []) ≡ false → Ends w (fs ++ c ∷ []) cs ds → Ends w fs (c ∷ cs) ds
-on_with w fs c cs ds not_yet e = record {
-  front = c ∷ e.front;
-  rest = e.rest;
-  cut = ap (λ l. c ∷ l) e.cut;
-  counted = ap (λ b. cond b (1 + rounds_from (world_of w (fs ++ c ∷ [])) [] (cs ++ ds)) (rounds_from w (fs ++ c ∷ []) (cs ++ ds))) not_yet ∙ e.counted
-      ∙ ap (λ l. 1 + rounds_from (world_of w l) [] (e.rest ++ ds)) (append_assoc fs (c ∷ []) e.front);
-}
+on_with w fs c cs ds not_yet e = grind (arith, nat_tests, append_assoc)
 
 at_once : (w : World) (fs : List Event) (c : Event) (cs ds : List Event) → is_round w (fs ++ c ∷ []) ≡ true → Ends w fs (c ∷ cs) ds
 at_once w fs c cs ds round = record {
@@ -78,7 +68,7 @@ later_most (suc k) r w all es fs is run goes_on rounds = go (es ++ cs) refl (lat
     whole = is ∙ ap (λ l. es ++ l) rounds.2 ∙ sym (append_assoc es cs ds)
 
     round : is_round w (es ++ cs) ≡ true
-    round = round_made w es cs rounds.3
+    round = grind (arith, nat_tests, eq-eqb, count_none, same_size, served_earlier)
 
     led : world_of (world_of w es) cs ≡ world_of w (es ++ cs)
     led = sym (world_of-append w es cs)

@@ -1,6 +1,7 @@
 -- The rounds since the last fault, link or cut are rounds of a run of grants, releases and closes. So these rounds are
 -- within the bound for rounds. The place of an event is its number in the list of events, from 1. A round is a list of
 -- events in which each node has its turn: at some point it isn't privileged, or a close applies its move.
+use Rattle.std.proofs.lemmas.Bool.Decides.{nat_tests}
 use Rattle.std.proofs.Common.{◌≡◌, ℕ, zero, suc, ◌+◌, ◌≤◌, ◌⊎◌, inl, inr, Bool, true, false, not, cond, List, [], ◌∷◌, ◌++◌, take, drop, refl, sym, ap, ◌∙◌, subst, arith, append_assoc}
 use Rattle.std.proofs.Common.{take-append-drop}
 use Rattle.std.{specs.List.list_all, proofs.lemmas.Bool.and_parts, proofs.lemmas.Bool.eqb-true, proofs.lemmas.Bool.both_ways, proofs.lemmas.Bool.false_from_ne_true, proofs.lemmas.Bool.false≢true}
@@ -19,8 +20,7 @@ use Rattle.mml_board.specs.declared.event.Event.TheVariants as event
 -- ---- the counted rounds are rounds
 
 served_from : (b : Bool) → not b ≡ false → b ≡ true
-served_from true h = refl
-served_from false h = absurd (false≢true (sym h))
+served_from b h = grind (arith, nat_tests, false≢true)
 
 pub round_is : (w : World) (es : List Event) → is_round w es ≡ true → IsRound w es
 round_is w es h i lt =
@@ -142,9 +142,7 @@ module _ (r : RosterValue) (w : World) (es : List Event) (known : IsWorld w) (le
   since_within = subst (λ n. rounds_since w es ≤ rounds_for n) sized (run_within r from (drop last es) run_since)
 
   pub since_rests : rounds_for (size (world_of w es)) ≤ rounds_since w es → IsStable (configuration (world_of w es))
-  since_rests most =
-      subst (λ (v : World). IsStable (configuration v)) end
-      (run_rests r from (drop last es) run_since (subst (λ n. rounds_for n ≤ rounds_since w es) (sym sized) most))
+  since_rests most = grind (arith, nat_tests, end, run_rests, run_since, sized)
 
 pub rounds_within : (lab : LabValue) (es : List Event) → IsLab lab → is_legal_list lab.roster (opening_of lab.network) es ≡ true
     → rounds_since (opening_of lab.network) es ≤ (bounds_of (world_of (opening_of lab.network) es)).rounds

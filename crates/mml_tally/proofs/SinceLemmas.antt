@@ -4,10 +4,10 @@
 -- node is privileged if some rule is enabled there. A list of events is legal if the rules allow each event after the
 -- earlier ones. A grant chooses a move for a node, a release drops it, and a close applies all chosen moves at once. A
 -- fault sets a node's registers, a link joins two nodes, and a cut removes a link.
-use Rattle.std.proofs.Common.{◌≡◌, ℕ, ◌+◌, ◌*◌, ◌≤◌, Bool, true, false, cond, eqb, ltb, List, [], ◌∷◌, None, Some, is_some, refl, ap, sym, ◌∙◌, arith, inl, inr, min, ◌⊎◌, unwrap_or, subst}
+use Rattle.std.proofs.Common.{◌≡◌, ℕ, ◌+◌, ◌*◌, ◌≤◌, Bool, true, false, cond, eqb, List, [], ◌∷◌, None, Some, is_some, refl, ap, sym, ◌∙◌, arith, inl, inr, min, ◌⊎◌, unwrap_or, subst}
 use Rattle.std.specs.{Prelude.count_by, List.list_all}
 use Rattle.std.proofs.lemmas.Bool.{and_parts, cases_Bool, eqb-true, eq-eqb, false≢true, false_from_ne_true, Decides.nat_tests}
-use Rattle.mml_rules.specs.{declared.rule.Rule.Rule, Configuration.Configuration, Configuration.IsLawful, Rules.guard, Rules.is_privileged, Rules.AllHold, Rules.kind_of, Matching.IsStable}
+use Rattle.mml_rules.specs.{Configuration.Configuration, Configuration.IsLawful, Rules.is_privileged, Rules.kind_of, Matching.IsStable}
 use Rattle.mml_rules.proofs.MeaningLemmas.{privileged-means}
 use Rattle.mml_lab.specs.{Labs.LabValue, Labs.IsLab, Labs.link_count, Labs.links_below, Rosters.RosterValue}
 use Rattle.mml_board.specs.{declared.event.Event.Event, World.World, World.IsWorld, World.size, World.configuration, World.opening_of, Events.after, Events.is_legal, Runs.is_legal_list, Runs.world_of}
@@ -15,7 +15,7 @@ use Rattle.mml_board.proofs.{WorldLemmas.after-world, WorldLemmas.length-moved_r
 use Rattle.mml_convergence.specs.{Runs.is_of_step, Moves.applied_over, Potential.whole_potential, Courtships.most_courtships, Courtships.courting_potential, Most.most_moves}
 use Rattle.mml_convergence.proofs.AppliedLemmas.{Falls, event_pays, network_most}
 use Rattle.mml_convergence.proofs.{WholePotentialLemmas.whole_fell, RestLemmas.same_size, SumsLemmas.count_some, WholeLemmas.courting_fell, WholeLemmas.courting_most}
-use Rattle.mml_tally.specs.{Moves.fate_of, Moves.moves_from, declared.fate.Fate.Fate, declared.granted_move.Move.Move, Marks.is_applied, Marks.is_fate_applied, Bounds.bounds_of}
+use Rattle.mml_tally.specs.{Moves.fate_of, Moves.moves_from, declared.granted_move.Move.Move, Marks.is_applied, Bounds.bounds_of}
 use Rattle.mml_tally.specs.Runs.{last_change, is_fate_after, is_applied_after, run_of}
 use Rattle.mml_tally.proofs.{AppliedLemmas.applied_is, CountsLemmas.more, CountsLemmas.one, StudentsLemmas.opening-world}
 use Rattle.mml_board.specs.declared.event.Event.TheVariants as event
@@ -61,13 +61,9 @@ not_after i last q (event.Cut a b ∷ es) some = refl
 
 -- ---- the run since then
 
-applied_so : (k : ℕ) (f : Fate) → one (is_fate_after k f) ≤ one (is_fate_applied f)
-applied_so k (fate.Applied p) = grind (arith, nat_tests)
-applied_so k _ = omega arith
-
 fewer : (k : ℕ) (ms : List Move) → count_by (is_applied_after k) ms ≤ count_by is_applied ms
 fewer k [] = omega arith
-fewer k (m ∷ ms) = let rest = fewer k ms in omega (arith, more (is_applied_after k) m ms, more is_applied m ms, rest, applied_so k m.fate)
+fewer k (m ∷ ms) = let rest = fewer k ms in grind (arith, more (is_applied_after k) m ms, more is_applied m ms, rest, nat_tests)
 
 -- grants, releases and closes that lead to the same world as the list es, and that apply at least n moves
 record Since (r : RosterValue) (w : World) (es : List Event) (n : ℕ) : Type 0 where
@@ -91,8 +87,7 @@ whole r w last q es k legal steps =
 
 -- if m is n, and `Since` holds after the first event, it holds before this event, too
 pass : (r : RosterValue) (w : World) (e : Event) (es : List Event) (n m : ℕ) → m ≡ n → Since r (after w e) es n → Since r w (e ∷ es) m
-pass r w e es n m same s =
-    record { from = s.from; later = s.later; world = s.world; legal = s.legal; steps = s.steps; end = s.end; moves = omega (arith, same, s.moves) }
+pass r w e es n m same s = grind (arith, nat_tests)
 
 -- after the first event of a legal list, the world is lawful (`IsWorld`), and the rest of the list is legal
 rest_of : (r : RosterValue) (w : World) (e : Event) (es : List Event) → IsWorld w → is_legal_list r w (e ∷ es) ≡ true
@@ -140,15 +135,11 @@ paid P falls r w (e ∷ es) k legal steps =
     let rest = paid P falls r (after w e) es on.0 on.1 both.1 in
     omega (arith, event_pays P falls w e k both.0, rest)
 
--- if rule q is enabled at node i, a step in which only i moves, by q, applies only enabled rules
-alone : (c : Configuration) (i : ℕ) (q : Rule) → guard c i q ≡ true → AllHold c (λ j. cond (eqb i j) (Some q) None)
-alone c i q g j r e = grind (arith, nat_tests, eqb-true i j, g)
-
 -- if the potential is 0, no node is privileged
 resting : (P : Configuration → ℕ) → Falls P → (c : Configuration) → IsLawful c → P c ≡ 0 → IsStable c
 resting P falls c l none i lt = false_from_ne_true (is_privileged c i) (λ on.
     let g = (privileged-means c i l).0 on in
-    let fell = falls c (λ j. cond (eqb i j) (Some g.0) None) l (alone c i g.0 g.1) in
+    let fell = falls c (λ j. cond (eqb i j) (Some g.0) None) l (grind (arith, nat_tests, eqb-true)) in
     let some = count_some c.size i (λ j. is_some (cond (eqb i j) (Some g.0) None)) lt (ap (λ b. is_some (cond b (Some g.0) None)) (eq-eqb i i refl)) in
     absurd (omega (arith, none, fell, some)))
 
@@ -167,14 +158,8 @@ same_links w _ steps = absurd (false≢true steps)
 
 -- ---- both bounds
 
-within_both : (n x a b s l m : ℕ) → n ≤ x → x + a ≤ 3 * s + 2 * m → x + b ≤ 2 * l + 3 * s → n ≤ 3 * s + 2 * min l m
-within_both n x a b s l m le first second = grind (arith, nat_tests)
-
 one_is_spent : (n x a b s l m : ℕ) → n ≤ x → x + a ≤ 3 * s + 2 * m → x + b ≤ 2 * l + 3 * s → 3 * s + 2 * min l m ≤ n → (a ≡ 0) ⊎ (b ≡ 0)
-one_is_spent n x a b s l m le first second most = elim (cases_Bool (ltb m l)) [
-  | inl more ↦ inl (grind (arith, nat_tests, more))
-  | inr less ↦ inr (grind (arith, nat_tests, less))
-]
+one_is_spent n x a b s l m le first second most = grind (arith, nat_tests, cases_Bool, more)
 
 module _ (r : RosterValue) (w : World) (es : List Event) (n : ℕ) (s : Since r w es n) where
   abbrev last : World
@@ -194,9 +179,7 @@ module _ (r : RosterValue) (w : World) (es : List Event) (n : ℕ) (s : Since r 
       omega (arith, spent, same_size s.from s.later, same_links s.from s.later s.steps, network_most s.from.network s.world.network)
 
   few : n ≤ most_moves (size last) (link_count last.network)
-  few =
-      within_both n (applied_over s.from s.later) (courting_potential (configuration last)) (whole_potential (configuration last)) (size last) (link_count last.network)
-      (most_courtships (size last)) s.moves courted linked
+  few = grind (arith, nat_tests, courted, linked)
 
   rests : most_moves (size last) (link_count last.network) ≤ n → IsStable (configuration last)
   rests most =

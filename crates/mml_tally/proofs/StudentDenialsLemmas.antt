@@ -1,11 +1,11 @@
 -- The number of lines that a clause denied is the sum over the denials of this clause. The line of one more student can
 -- be appended to the text about denials. A clause is a condition under which a request is granted.
-use Rattle.std.proofs.Common.{◌≡◌, ℕ, ◌+◌, add-one, Bool, true, false, cond, List, [], ◌∷◌, ◌++◌, append_assoc, Option, None, Some, refl, sym, ap, ◌∙◌, arith}
+use Rattle.std.proofs.Common.{◌≡◌, ℕ, ◌+◌, add-one, Bool, true, false, cond, List, [], ◌∷◌, ◌++◌, append_assoc, Option, refl, sym, ap, ◌∙◌, arith}
 use Rattle.std.{specs.Prelude.option_map, proofs.lemmas.Bool.Decides.nat_tests}
 use Rattle.mml_lab.specs.{Labs.LabValue, Rosters.RosterValue, Rosters.name_of}
 use Rattle.mml_tally.specs.declared.{ask.Ask.Ask, student_denials.StudentDenial.StudentDenial, student_denials.NamedDenials.NamedDenials}
 use Rattle.mml_tally.specs.Asks.{is_student, asks_by, is_clause, denials_in, denials_of}
-use Rattle.mml_tally.specs.StudentDenials.{clause_named, is_named, named_in, named_of, denials_line, denials_text, IsNamed, AreNamed, AreSums}
+use Rattle.mml_tally.specs.StudentDenials.{clause_named, is_named, named_in, named_of, denials_line, denials_text, AreNamed, AreSums}
 use Rattle.mml_tally.proofs.CountsLemmas.{one, more}
 use Rattle.mml_lab.specs.declared.who.Who.TheVariants as who
 use Rattle.mml_tally.specs.declared.student_denials.StudentDenial.TheVariants as named
@@ -36,26 +36,6 @@ next_named lab asks now before first r s place name denied b n er es en ed =
 abbrev of_first : Option StudentDenial → ℕ
 of_first n = one (is_named named.Greeted n) + one (is_named named.Hidden n) + one (is_named named.NotOwner n) + one (is_named named.NotTeacher n)
 
-first_is : (n : Option StudentDenial) → one (is_clause 1 (option_map clause_named n)) ≡ of_first n
-first_is None = refl
-first_is (Some named.Greeted) = refl
-first_is (Some _) = refl
-
-second_is : (n : Option StudentDenial) → one (is_clause 2 (option_map clause_named n)) ≡ one (is_named named.Stale n)
-second_is None = refl
-second_is (Some named.Stale) = refl
-second_is (Some _) = refl
-
-third_is : (n : Option StudentDenial) → one (is_clause 3 (option_map clause_named n)) ≡ one (is_named named.Chosen n)
-third_is None = refl
-third_is (Some named.Chosen) = refl
-third_is (Some _) = refl
-
-fourth_is : (n : Option StudentDenial) → one (is_clause 4 (option_map clause_named n)) ≡ one (is_named named.Guard n)
-fourth_is None = refl
-fourth_is (Some named.Guard) = refl
-fourth_is (Some _) = refl
-
 -- if a line was denied by the clause of its named denial, it is counted for clause c exactly if c is the clause of this
 -- denial
 clause_is : (c : ℕ) (denied : Option ℕ) (n : Option StudentDenial) → denied ≡ option_map clause_named n
@@ -67,15 +47,11 @@ sums_more : (a : Ask) (own : List Ask) → a.denied ≡ option_map clause_named 
 sums_more a own e rest =
     let clause = λ (c : ℕ). more (λ (x : Ask). is_clause c x.denied) a own in
     let name = λ (d : StudentDenial). more (λ (x : Ask). is_named d x.named) a own in (
-      omega (arith, rest.0, clause 1, clause_is 1 a.denied a.named e, first_is a.named, name named.Greeted, name named.Hidden, name named.NotOwner, name named.NotTeacher),
-      omega (arith, rest.1, clause 2, clause_is 2 a.denied a.named e, second_is a.named, name named.Stale),
-      omega (arith, rest.2, clause 3, clause_is 3 a.denied a.named e, third_is a.named, name named.Chosen),
-      omega (arith, rest.3, clause 4, clause_is 4 a.denied a.named e, fourth_is a.named, name named.Guard),
+      grind (arith, rest.0, clause 1, clause_is 1 a.denied a.named e, nat_tests, name named.Greeted, name named.Hidden, name named.NotOwner, name named.NotTeacher),
+      grind (arith, rest.1, clause 2, clause_is 2 a.denied a.named e, nat_tests, name named.Stale),
+      grind (arith, rest.2, clause 3, clause_is 3 a.denied a.named e, nat_tests, name named.Chosen),
+      grind (arith, rest.3, clause 4, clause_is 4 a.denied a.named e, nat_tests, name named.Guard),
     )
-
--- a line of student s was denied by the clause of its named denial, or by none if it has none
-own_named : (s : ℕ) (w denied : Option ℕ) (n : Option StudentDenial) → IsNamed w denied n → is_student s w ≡ true → denied ≡ option_map clause_named n
-own_named s w denied n h b = grind (arith, nat_tests)
 
 sums_if : (a : Ask) (own : List Ask) (b : Bool) → (b ≡ true → a.denied ≡ option_map clause_named a.named) → AreSums (denials_in own) (named_in own)
     → AreSums (denials_in (cond b (a ∷ own) own)) (named_in (cond b (a ∷ own) own))
@@ -84,4 +60,4 @@ sums_if a own false e rest = rest
 
 pub are_sums : (asks : List Ask) (s : ℕ) → AreNamed asks → AreSums (denials_of asks s) (named_of asks s)
 are_sums [] s h = (refl, refl, refl, refl)
-are_sums (a ∷ asks) s h = sums_if a (asks_by s asks) (is_student s a.who) (own_named s a.who a.denied a.named h.0) (are_sums asks s h.1)
+are_sums (a ∷ asks) s h = sums_if a (asks_by s asks) (is_student s a.who) (grind (arith, nat_tests)) (are_sums asks s h.1)

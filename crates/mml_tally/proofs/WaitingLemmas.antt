@@ -1,7 +1,7 @@
 -- The nodes that wait are those that have had no turn in the round so far. A node is served as soon as it has had its
 -- turn. A node is privileged if some rule is enabled there.
+use Rattle.std.{proofs.lemmas.Bool.Decides.nat_tests, proofs.lemmas.Bool.eq-eqb, proofs.lemmas.Bool.ne_eqb, specs.Ordering.nat_cmp, specs.Cmp.nat_cmp_total, specs.FinSet.FinSet}
 use Rattle.std.proofs.Common.{◌≡◌, ◌≢◌, ℕ, suc, ◌+◌, Bool, true, false, not, ◌&&◌, ◌||◌, cond, eqb, ltb, List, [], ◌∷◌, ◌++◌, refl, sym, ap, ◌∙◌, arith}
-use Rattle.std.{proofs.lemmas.Bool.eq-eqb, proofs.lemmas.Bool.ne_eqb, specs.Ordering.nat_cmp, specs.Cmp.nat_cmp_total, specs.FinSet.FinSet}
 use Rattle.mml_ids.specs.{Sets.those_below, inside.WordsLemmas.has_empty, inside.WordsLemmas.same_ranks, inside.WordsLemmas.has-those_below}
 use Rattle.mml_rules.specs.Rules.{is_privileged}
 use Rattle.mml_board.specs.{declared.event.Event.Event, World.World, World.size, World.configuration, Events.is_chosen, Events.chosen_nodes, Events.after, Runs.world_of}
@@ -14,22 +14,14 @@ use Rattle.std.specs.FinSet as sets
 
 -- ---- one node
 
-first_turn : (p c q : Bool) → not (not p || (c || not q)) ≡ (not (not p) && (not c && q))
-first_turn true true q = refl
-first_turn true false true = refl
-first_turn true false false = refl
-first_turn false c q = refl
-
 next_turn : (p c s s' t : Bool) → not s' ≡ (not s && t) → not (not p || (c || s')) ≡ (not (not p || (c || s)) && t)
-next_turn true true s s' t h = refl
-next_turn true false s s' t h = h
-next_turn false c s s' t h = refl
+next_turn p c s s' t h = grind (arith, nat_tests)
 
 -- a node still waits after one more event exactly if it waited before, the event applies no move of it, and it is
 -- privileged after the event
 served_more : (i : ℕ) (w : World) (fs : List Event) (e : Event) → not (is_served i w (fs ++ e ∷ []))
     ≡ (not (is_served i w fs) && (not (is_close e && is_chosen (world_of w fs) i) && is_privileged (configuration (after (world_of w fs) e)) i))
-served_more i w [] e = first_turn (is_privileged (configuration w) i) (is_close e && is_chosen w i) (is_privileged (configuration (after w e)) i)
+served_more i w [] e = grind (arith, nat_tests, is_privileged (configuration w) i, is_close e && is_chosen w i, is_privileged (configuration (after w e)) i)
 served_more i w (f ∷ fs) e =
     next_turn (is_privileged (configuration w) i) (is_close f && is_chosen w i) (is_served i (after w f) fs) (is_served i (after w f) (fs ++ e ∷ []))
     (not (is_close e && is_chosen (world_of (after w f) fs) i) && is_privileged (configuration (after (world_of (after w f) fs) e)) i)
@@ -42,8 +34,7 @@ abbrev waiting : World → List Event → FinSet nat_cmp
 waiting w fs = those_below (size w) (λ i. not (is_served i w fs))
 
 twice : (b : Bool) → not (not b) ≡ b
-twice true = refl
-twice false = refl
+twice b = grind (arith, nat_tests)
 
 waiting_first : (w : World) → waiting w [] ≡ privileged_nodes w
 unfolding privileged_nodes
@@ -72,11 +63,7 @@ has-still w s e q =
 
 -- the condition l, that a node is below the number of nodes, may be added to each part of the condition for waiting
 within : (l s c m p : Bool) → (l && (s && (not (c && m) && p))) ≡ (((l && s) && not (c && (l && m))) && (l && p))
-within true true true true p = refl
-within true true true false p = refl
-within true true false m p = refl
-within true false c m p = refl
-within false s c m p = refl
+within l s c m p = grind (arith, nat_tests)
 
 waiting_more : (w : World) (fs : List Event) (e : Event) → waiting w (fs ++ e ∷ []) ≡ still_waiting (world_of w fs) (waiting w fs) e
 waiting_more w fs e = same_ranks _ _ each
@@ -113,8 +100,7 @@ below_more t n = let more : n + 1 ≡ suc n = omega arith in ap (λ k. those_bel
 
 -- if n passes the test, it is put into the set of those below n + 1
 pub one_below : (t : ℕ → Bool) (n : ℕ) (s : FinSet nat_cmp) → s ≡ those_below n t → t n ≡ true → sets.insert s n ≡ those_below (n + 1) t
-one_below t n s so_far passes =
-    ap (λ x. sets.insert x n) so_far ∙ sym (below_more t n ∙ ap (λ b. cond b (sets.insert (those_below n t) n) (those_below n t)) passes)
+one_below t n s so_far passes = grind (arith, nat_tests, below_more)
 
 -- if n doesn't pass the test, the set stays the same
 pub other_below : (t : ℕ → Bool) (n : ℕ) (s : FinSet nat_cmp) → s ≡ those_below n t → t n ≡ false → s ≡ those_below (n + 1) t
@@ -144,22 +130,13 @@ counted w fs (e ∷ es) =
 
 module _ (n total : ℕ) (w v : World) (s x first : FinSet nat_cmp) (e : Event) (es fs : List Event) (next : fs ≡ e ∷ es)
     (so_far : n + count_rounds w s fs ≡ total) (leads : v ≡ after w e) (waits : x ≡ still_waiting w s e) where
-  step_is : count_rounds w s fs ≡ cond (eqb (sets.len x) 0) (1 + count_rounds v (privileged_nodes v) es) (count_rounds v x es)
-  step_is = ap (count_rounds w s) next ∙ (λ k. cond (eqb (sets.len (sym waits k)) 0)
-      (1 + count_rounds (sym leads k) (privileged_nodes (sym leads k)) es) (count_rounds (sym leads k) (sym waits k) es))
-
   -- if no node waits after the event, a round ends, and the next begins
   pub round_counted : first ≡ privileged_nodes v → sets.len x ≡ 0 → n + 1 + count_rounds v first es ≡ total
-  round_counted begins ends =
-      let step = step_is ∙ ap (λ b. cond b (1 + count_rounds v (privileged_nodes v) es) (count_rounds v x es)) (eq-eqb (sets.len x) 0 ends) in
-      let same = ap (λ p. count_rounds v p es) begins in
-      omega (arith, so_far, step, same)
+  round_counted begins ends = grind (arith, nat_tests, eq-eqb)
 
   -- if a node still waits after the event, the round goes on
   pub none_counted : sets.len x ≢ 0 → n + count_rounds v x es ≡ total
-  none_counted goes_on =
-      let step = step_is ∙ ap (λ b. cond b (1 + count_rounds v (privileged_nodes v) es) (count_rounds v x es)) (ne_eqb (sets.len x) 0 goes_on) in
-      omega (arith, so_far, step)
+  none_counted goes_on = grind (arith, nat_tests, ne_eqb)
 
 -- the number of rounds that end in a list, counted by the nodes that wait, is `rounds_in`
 pub rounds_counted : (w : World) (es : List Event) → count_rounds w (privileged_nodes w) es ≡ rounds_in w es

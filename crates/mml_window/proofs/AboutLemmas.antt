@@ -1,10 +1,10 @@
 -- The results of windows name only nodes of the lab. A ruling is what the policy decides about a command. A window is
 -- one session's view of the published events and board. A list of events is legal if the rules allow each event after
 -- the earlier ones.
-use Rattle.std.proofs.Common.{◌≡◌, ℕ, true, false, None, List, length, Result, Ok, Err, sym, subst}
-use Rattle.std.specs.Result.{IfOk}
+use Rattle.std.{proofs.lemmas.Bool.Decides.nat_tests, specs.Result.IfOk}
+use Rattle.std.proofs.Common.{◌≡◌, ℕ, true, false, List, length, Result, Ok, Err, sym, subst, arith}
 use Rattle.mml_lab.specs.{declared.who.Who.Who, Labs.LabValue, Labs.IsLab}
-use Rattle.mml_board.specs.{declared.event.Event.Event, World.IsWorld, World.opening_of, Lists.is_legal_in, Lists.world_in}
+use Rattle.mml_board.specs.{declared.event.Event.Event, World.IsWorld, Lists.is_legal_in, Lists.world_in}
 use Rattle.mml_board.proofs.{WorldLemmas.length-none, WorldLemmas.hold-none, RunsLemmas.list-world}
 use Rattle.mml_policy.specs.declared.{command.Command.Command, ruling.Ruling.Ruling, ruling.Ruling.TheVariants.Seen, ruling.Ruling.TheVariants.Looked, see.See.See, look.Look.Look}
 use Rattle.mml_policy.specs.About.{IsSeen, IsLookedAt, IsRuled}
@@ -17,11 +17,7 @@ use Rattle.mml_window.proofs.ListLemmas.{nodes_in}
 
 module _ (lab : LabValue) (is : IsLab lab) where
   pub world_is : (l : List Event) → is_legal_in lab l ≡ true → IsWorld (world_in lab l)
-  world_is l legal = list-world lab.roster (opening_of lab.network) l (record {
-    network = is.network;
-    choices = length-none (length lab.network.registers) None;
-    hold = hold-none (length lab.network.registers) _;
-  }) legal
+  world_is l legal = grind (arith, nat_tests, list-world, length-none, hold-none)
 
   -- the ruling on a command after a legal list of events names only nodes of the lab
   ruled_there : (l : List Event) (who : Who) (command : Command) (r : Ruling) → is_legal_in lab l ≡ true → ruling_at lab (world_in lab l) who command ≡ r

@@ -1,6 +1,7 @@
 -- Places that climb: each is greater than the one before it. The place of an event is its number in the list of events,
 -- from 1.
-use Rattle.std.proofs.Common.{ℕ, ◌+◌, ◌*◌, ◌-◌, ◌<◌, ◌≤◌, List, [], ◌∷◌, ◌++◌, length, arith, le_refl, le_trans, mul-le-mul_left}
+use Rattle.std.proofs.lemmas.Bool.Decides.{nat_tests}
+use Rattle.std.proofs.Common.{ℕ, ◌+◌, ◌-◌, ◌<◌, ◌≤◌, List, [], ◌∷◌, ◌++◌, length, arith, le_refl, mul-le-mul_left}
 use mathlib.Core.List.{IsPrefix}
 use Rattle.mml_board.specs.declared.event.Event.{Event}
 use Rattle.mml_window.specs.{Climbing.Climbs, Windows.AreSpared}
@@ -25,5 +26,4 @@ climbs_on ps xs ys pre c = climbs_more 0 ps (length xs) (length ys) (prefix_leng
 
 -- if the lab allowed enough more events at each refusal, this is still true after more events were seen
 pub spares_on : (limit halts spare : ℕ) (xs ys : List Event) → IsPrefix xs ys → AreSpared limit (length xs) halts spare → AreSpared limit (length ys) halts spare
-spares_on limit halts spare xs ys pre are =
-    record { least = le_trans (mul-le-mul_left halts (omega (arith, prefix_length xs ys pre))) are.least }
+spares_on limit halts spare xs ys pre are = grind (arith, nat_tests, mul-le-mul_left, prefix_length)

@@ -12,10 +12,6 @@ use Rattle.mml_journal.proofs.JournalTextLemmas.{one_more}
 use Rattle.mml_window.specs.Journals.{IsJournal, TellsJournal}
 use Rattle.mml_window.proofs.ListLemmas.{place_in}
 
--- the journal of a list with one more event has the line of this event at its end
-text-one_more : (lab : LabValue) (l : List Event) (e : Event) → text_in lab (l ++ e ∷ []) ≡ text_in lab l ++ next_line lab.ids lab.roster (world_in lab l) e
-text-one_more lab l e = grind (arith, nat_tests, one_more, opening_of, text_in, ended, event_line, world_in, place_in)
-
 -- if the journal isn't halted, its bytes are the lines of the events
 whole : (lab : LabValue) (l : List Event) (bytes : List ℕ) → IsJournal lab l false bytes → bytes ≡ text_in lab l
 whole lab l bytes j = j.1 ∙ ap (λ t. text_in lab l ++ t) j.2 ∙ append-nil _
@@ -23,7 +19,7 @@ whole lab l bytes j = j.1 ∙ ap (λ t. text_in lab l ++ t) j.2 ∙ append-nil _
 -- if the sink took the line of an event, it has taken the journal with this event
 pub line_taken : (lab : LabValue) (l : List Event) (e : Event) (old new : Option (List ℕ)) → TellsJournal lab l false old
     → new ≡ with_more old (next_line lab.ids lab.roster (world_in lab l) e) → TellsJournal lab (l ++ e ∷ []) false new
-line_taken lab l e x3 new j more = grind (arith, nat_tests, nat_tests, next_line, world_in, whole, text-one_more, append-nil)
+line_taken lab l e x3 new j more = grind (arith, nat_tests, next_line, world_in, whole, one_more, opening_of, text_in, ended, event_line, place_in, append-nil)
 
 -- if the sink took only a part of the line, it has taken a halted journal without this event
 pub line_torn : (lab : LabValue) (l : List Event) (e : Event) → is_legal lab.roster (world_in lab l) e ≡ true → (line : List ℕ) (n : ℕ) → n < length line

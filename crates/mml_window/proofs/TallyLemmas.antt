@@ -70,10 +70,7 @@ at_end x0 ps n is = grind (arith, nat_tests, drop_all, leb-true, some_behind, le
 
 -- if `IsStuck` holds for two lists, it holds for one list after the other
 pub stuck_append : (place : ℕ) (xs ys : List ℕ) → IsStuck place xs → IsStuck place ys → IsStuck place (xs ++ ys)
-stuck_append place xs ys f h some = ⊎_elim
-    (λ (l : 0 < times place xs). let t = f l in (t.0, t.1, t.2, omega (arith, t.3, times_append t.0 xs ys)))
-    (λ (l : times place xs ≤ 0). let t = h (omega (arith, some, l, times_append place xs ys)) in (t.0, t.1, t.2, omega (arith, t.3, times_append t.0 xs ys)))
-    (less_or_not 0 (times place xs))
+stuck_append place xs ys f h some = grind (arith, nat_tests, times_append, less_or_not)
 
 -- the places left in the first i + 1 windows are those left in the first i, and then those left in window i
 left_suc : (ws : List WindowValue) (cs : List ℕ) (i : ℕ) (w : WindowValue) → i < length ws → i < length cs

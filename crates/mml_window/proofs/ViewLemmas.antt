@@ -1,23 +1,19 @@
 -- The answers to views (requests to be shown something), and the events that a window has seen then. A ruling is what
 -- the policy decides about a command. The place of an event is its number in the list of events, from 1. A window is
 -- one session's view of the published events and board.
-use Rattle.std.proofs.Common.{◌≡◌, ℕ, List, length, Option, Result, Ok, Err, refl, ap, ◌∙◌, sym, subst}
+use Rattle.std.proofs.{lemmas.Bool.Decides.nat_tests, Common.◌≡◌, Common.ℕ, Common.List, Common.length, Common.Option, Common.Result, Common.ap, Common.◌∙◌, Common.sym, Common.subst, Common.arith}
 use Rattle.mml_lab.specs.{declared.who.Who.Who, Labs.LabValue, Labs.IsLab}
 use Rattle.mml_board.specs.{declared.event.Event.Event, World.World, World.size, Lists.world_in}
 use Rattle.mml_policy.specs.declared.{command.Command.Command, ruling.Ruling.Ruling, refusal.Refusal.Refusal}
 use Rattle.mml_window.specs.declared.{sight.SightFault.SightFault, seeing.View.View, published.Published.Published}
 use Rattle.mml_window.specs.{Rulings.ruling_at, Rule.Saw, Windows.WindowValue, Windows.window_with, Windows.IsWindow, Windows.SeesOn, Views.Shows, Views.AnswersView}
 use Rattle.mml_window.proofs.{ListLemmas.nodes_in, ClimbingLemmas.climbs_on, ClimbingLemmas.spares_on}
-use Rattle.mml_window.specs.declared.sight.SightFault.TheVariants as fault
 
 -- if the result shows the ruling after the events that the window has then seen, it answers the view
 pub tells : {A : Type 0} (shown : A → Ruling) (lab : LabValue) (old new : WindowValue) (who : Who) (command : Command) (r : Result A SightFault)
     → SeesOn lab old new
     → Shows shown (ruling_at lab (world_in lab new.seen) who command) r → AnswersView shown lab old who command r new
-tells shown lab old new who command (Ok x) on s = (s, on)
-tells shown lab old new who command (Err (fault.Denied d)) on s = (s, on)
-tells shown lab old new who command (Err fault.Memory) on s = (s, on)
-tells shown lab old new who command (Err fault.Closed) on s = absurd s
+tells shown lab old new who command r on s = grind (arith, nat_tests)
 
 -- the board that a reader sees has as many nodes as the lab
 pub nodes_entered : {lab : LabValue} {x : Published} {v w : View} → IsLab lab → Saw lab v x w → length lab.ids ≡ size x.board
@@ -42,11 +38,4 @@ pub tells_entered : {A : Type 0} (shown : A → Ruling) (lab lab' : LabValue) (x
     (r : Result A SightFault) (old : WindowValue) (ps : List ℕ) (why : Option Refusal) (n m : ℕ)
     → lab' ≡ lab → Saw lab v x w → u ≡ w → board ≡ x.board → old ≡ window_with v.seen ps why n m
     → Shows shown (ruling_at lab' board who command) r → AnswersView shown lab old who command r (window_with u.seen ps why n m)
-tells_entered shown lab lab' x v w u board who command r old ps why n m named saw left read was s =
-    let seen : x.events.items ≡ u.seen = ap (λ (y : View). y.seen) (sym saw.view ∙ sym left) in
-    let world : board ≡ world_in lab x.events.items = read ∙ saw.published.board in
-    subst (λ (o : WindowValue). AnswersView shown lab o who command r (window_with u.seen ps why n m)) (sym was)
-    (subst (λ (l : List Event). AnswersView shown lab (window_with v.seen ps why n m) who command r (window_with l ps why n m)) seen
-    (tells shown lab (window_with v.seen ps why n m) (window_with x.events.items ps why n m) who command r
-    (record { begins = saw.begins; legal = saw.published.legal; places = refl; refused = refl; halts = refl; spare = refl })
-    (subst (λ (k : Ruling). Shows shown k r) (λ t. ruling_at (named t) (world t) who command) s)))
+tells_entered shown lab lab' x v w u board who command r old ps why n m named saw left read was s = grind (arith, nat_tests, tells)

@@ -1,17 +1,9 @@
-use Rattle.std.proofs.Common.{rules, ◌≡◌, ◌++◌, ◌∙◌, ℕ, List, drop, get_or, length, ap, sym, arith}
+use Rattle.std.proofs.{lemmas.Bool.Decides.nat_tests, Common.rules, Common.◌++◌, Common.◌∙◌, Common.ℕ, Common.List, Common.drop, Common.get_or, Common.ap, Common.arith}
 use Rattle.mml_window.proofs.TallyLemmas.{window_among, window_more, left_all}
 use Rattle.mml_window.proofs.tally.are_counted_off.Goals as goal
 
 pub returns-then-not-is_counted_off : goal.returns-then-not-is_counted_off
-returns-then-not-is_counted_off g c =
-    let left = c.if-not-is_counted_off.ensures in
-    let among =
-    window_among c.args.windows.now c.args.cursors.now c.windows.index c.index-windows-index.result (record {
-      is = search rules;
-      window = c.windows-test.true;
-      cursor = omega (arith, c.windows-test.true, c.requires.few, c.told-cursors);
-    }) left.0 in
-    (left.0, omega (arith, left.1, among))
+returns-then-not-is_counted_off g c = grind (arith, nat_tests, window_among)
 
 pub windows-preserved : goal.windows-preserved
 windows-preserved g c =
@@ -21,7 +13,4 @@ windows-preserved g c =
     ∙ c.if-not-is_counted_off.ensures
 
 pub returns : goal.returns
-returns g c =
-    let ws = c.args.windows.now in
-    let end : c.windows.index ≡ length ws = search rules in
-    sym (left_all ws c.args.cursors.now c.windows.index end) ∙ c.windows.invariant
+returns g c = grind (arith, nat_tests, left_all)

@@ -1,4 +1,4 @@
-use Rattle.std.proofs.Common.{rules, ◌≡◌, ◌++◌, ◌∷◌, [], List, length, ap, subst, sym, arith, length-append}
+use Rattle.std.proofs.Common.{rules, ◌≡◌, ◌++◌, ◌∷◌, [], length, ap, subst, sym, arith, length-append}
 use Rattle.std.{specs.Prelude.All, specs.Prelude.sum_by, proofs.lemmas.List.Sums.sum_by_push, proofs.lemmas.List.Elements.All-push}
 use Rattle.mml_window.specs.{Tallies.told_of, Windows.WindowValue, Windows.IsWindow}
 use Rattle.mml_window.proofs.TallyLemmas.{told_push}

@@ -1,5 +1,4 @@
-use Rattle.std.proofs.Common.{◌≡◌, ◌+◌, length}
-use Rattle.std.specs.Prelude.{All, sum_by}
+use Rattle.std.{proofs.Common.◌≡◌, proofs.Common.◌+◌, proofs.Common.length, specs.Prelude.All, specs.Prelude.sum_by}
 use Rattle.mml_window.specs.{Tallies.told_of, Windows.IsWindow}
 use Rattle.mml_window.proofs.tally.join_shares.Given as goal
 

@@ -1,30 +1,14 @@
-use Rattle.std.proofs.Common.{rules, ◌≡◌, ◌≤◌, ◌-◌, List, length, ◌∙◌, subst, sym}
+use Rattle.std.proofs.{lemmas.Bool.Decides.nat_tests, Common.rules, Common.◌≡◌, Common.◌-◌, Common.List, Common.length, Common.◌∙◌, Common.subst, Common.arith}
 use Rattle.mml_board.specs.{declared.event.Event.Event, Lists.world_in}
-use Rattle.mml_window.specs.{Books.BookValue, Answers.Decides, inside.Keeping.IsNextPlace, inside.Keeping.Keeps, inside.Keeping.Counts, inside.Keeping.IsHaltedAfter}
+use Rattle.mml_window.specs.{Books.BookValue, Answers.Decides, inside.Keeping.Keeps, inside.Keeping.Counts}
 use Rattle.mml_window.proofs.AnswerLemmas.{next_kept, present, halts_if_said}
 use Rattle.mml_window.proofs.desk.Desk.ask.Goals as goal
 
 pub keep-requires-clause-next : goal.keep-requires-clause-next
-keep-requires-clause-next g c =
-    let lab = g.H.House.lab in
-    let seen = c.read_until_board.new.self.seen in
-    let same : world_in lab seen ≡ world_in lab c.deref_mut-2.result.now.events = search rules in
-    let events : c.decide_into-answer.new.self.events ≡ c.press-2.result.now.desk.shown.value.events.items = search rules in
-    let few : length c.decide_into-answer.new.self.events ≤ lab.events = search rules in
-    subst (λ (l : List Event). IsNextPlace lab seen l c.decide_into-answer.result) events
-    (next_kept lab g.S.Sink.failures c.deref_mut-2.result.now c.decide_into-answer.new.self seen c.args.who c.args.command.now c.decide_into-answer.result
-    same c.decide_into-answer.ensures.decides few)
+keep-requires-clause-next g c = grind (arith, nat_tests, next_kept)
 
 pub count_halt-requires : goal.count_halt-requires
-count_halt-requires g c =
-    let lab = g.H.House.lab in
-    let same : world_in lab c.read_until_board.new.self.seen ≡ world_in lab c.deref_mut-2.result.now.events = search rules in
-    let book : c.deref_mut-3.result.now ≡ c.decide_into-answer.new.self = search rules in
-    let events : c.press-2.result.now.desk.shown.value.events.items ≡ c.decide_into-answer.new.self.events = search rules in
-    subst (λ (b : BookValue _). IsHaltedAfter c.decide_into-answer.result b c.keep.new.self) (sym book)
-    (halts_if_said lab g.S.Sink.failures c.deref_mut-2.result.now c.decide_into-answer.new.self c.read_until_board.new.self c.keep.new.self c.args.who
-    c.args.command.now c.decide_into-answer.result same c.decide_into-answer.ensures.decides
-    (subst (λ (l : List Event). Keeps l c.read_until_board.new.self c.decide_into-answer.result c.keep.new.self) events c.keep.ensures))
+count_halt-requires g c = grind (arith, nat_tests, halts_if_said)
 
 pub returns-clause-present : goal.returns-clause-present
 returns-clause-present g c =
