@@ -245,8 +245,8 @@ class Desk(Cycle):
         going.until("^the lab allows 4 events, and 3 of them are used")
         going.type("daemon central")
         going.until("^nothing more is granted: all 4 events that the lab allows are used")
-        self.assertEqual(going.ends(), 5, going.lines)
-        self.assertEqual(self.whole(going.folder), 4)
+        self.assertEqual(going.wait_for_end(), 5, going.lines)
+        self.assertEqual(self.check_complete(going.folder), 4)
         self.assertEqual(sum(line.startswith("nothing more is granted") for line in going.lines), 1, going.lines)
 
     def test_the_commands_daemon_and_shake_act_and_are_refused_in_a_wrong_form(self) -> None:

@@ -188,7 +188,7 @@ class OneDesk(Classes):
         desk.type("resume 2")
         self.assertRegex(desk.until("^ALARM maths-2 is down: class: the server can't be started"), "; type `end 2` to give it up$")
         desk.type("end 2\nend 1\nend 1")
-        self.assertEqual(desk.ends(), 4, desk.lines)
+        self.assertEqual(desk.wait_for_end(), 4, desk.lines)
 
     def test_in_a_resumed_class_too_a_network_that_has_lost_run_json_is_only_offered_to_be_given_up(self) -> None:
         desk = self.begin("--close", "by-hand")
@@ -203,7 +203,7 @@ class OneDesk(Classes):
         for number, line in enumerate(alarms, 1):
             self.assertRegex(line, f"^ALARM maths-{number} is down: class: the server can't be started.*; type `end {number}` to give it up$")
         again.type("end 1\nend 2")
-        self.assertEqual(again.ends(), 4, again.lines)
+        self.assertEqual(again.wait_for_end(), 4, again.lines)
 
     def test_a_signal_ends_a_class_with_a_page_and_a_network_that_is_down(self) -> None:
         """The page, on which this network could be resumed, doesn't keep the class from ending."""
