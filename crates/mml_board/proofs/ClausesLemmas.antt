@@ -1,11 +1,11 @@
 -- What follows if all clauses of an act hold, and that the clauses of the resulting event's own act then hold, too.
 -- Other crates use these lemmas instead of the clauses.
-use Rattle.std.proofs.Common.{◌≡◌, ℕ, ◌<◌, ◌-◌, ◌==◌, Bool, true, cond, not, ◌&&◌, Option, None, Some, is_none, option_map, Result, Ok, refl, ap, ◌∙◌, arith}
-use Rattle.std.specs.{Option.ok_or, Option.IfSome, Result.IfOk, Result.is_ok}
+use Rattle.std.proofs.Common.{◌≡◌, ℕ, ◌<◌, ◌-◌, ◌==◌, Bool, true, cond, not, ◌&&◌, None, Some, is_none, Result, Ok, refl, ap, ◌∙◌, arith}
+use Rattle.std.specs.{Option.ok_or, Result.IfOk, Result.is_ok}
 use Rattle.mml_ids.proofs.GivesLemmas.{bind-if, need-if}
-use Rattle.mml_board.specs.declared.{act.Act.Act, denial.Denial.Denial, denial.Denial.TheVariants.NotOwner, denial.Denial.TheVariants.BadRegister, event.Event.Event}
+use Rattle.mml_board.specs.declared.{act.Act.Act, denial.Denial.Denial, event.Event.Event}
 use Rattle.mml_board.specs.{ActNodes.AreAllThere, World.World, World.size, World.configuration, World.chosen_at, Events.is_possible, Events.is_legal}
-use Rattle.mml_board.specs.Clauses.{check, student, asker, act_of, anybodys, is_node, may_point, is_chosen, is_any_chosen, pointer, node_in}
+use Rattle.mml_board.specs.Clauses.{check, asker, act_of, anybodys, is_node, may_point, is_chosen, is_any_chosen, node_in}
 use Rattle.std.proofs.lemmas.Bool.{Decides.nat_tests, and_from, lt-ltb, eq-eqb, false≢true}
 use Rattle.mml_ids.specs.Gives.{◌>>=◌, ◌>>◌, need}
 use Rattle.mml_rules.specs.{declared.rule.Rule.Rule, Rules.guard}
@@ -16,10 +16,6 @@ use Rattle.mml_board.specs.declared.event.Event.TheVariants as event
 -- if the chain of s and f succeeds, s succeeds with some a, and f a succeeds
 pub ok-bind : {A B E : Type 0} (s : Result A E) (f : A → Result B E) → is_ok (s >>= f) ≡ true → (a : A) × (s ≡ Ok a) × (is_ok (f a) ≡ true)
 ok-bind s f h = grind arith
-
--- if `need b e` followed by t succeeds, b is true, and t succeeds
-pub ok-need : {B E : Type 0} (b : Bool) (e : E) (t : Result B E) → is_ok (need b e >> t) ≡ true → (b ≡ true) × (is_ok t ≡ true)
-ok-need b e t h = grind arith
 
 -- if s succeeds with a, and f a succeeds, the chain of s and f succeeds
 pub ok-from : {A B E : Type 0} (s : Result A E) (f : A → Result B E) (a : A) → s ≡ Ok a → is_ok (f a) ≡ true → is_ok (s >>= f) ≡ true
@@ -38,36 +34,28 @@ is_fit w (event.Fault i registers) = is_node w i && may_point (configuration w) 
 is_fit w (event.Link a b) = (is_node w a && is_node w b) && (not (a == b) && not ((configuration w).linked a b))
 is_fit w (event.Cut a b) = (configuration w).linked a b
 
--- if s succeeds, and P follows from its success, P holds
-if_ok : {A E : Type 0} (P : Type 0) (s : Result A E) → is_ok s ≡ true → IfOk s (λ a. P) → P
-if_ok P s h p = grind (arith, nat_tests, false≢true)
-
 fits : (w : World) (e : Event) → IfOk (check anybodys w (asker e) (act_of w e)) (λ f. is_fit w e ≡ true)
 fits w e = grind (arith, nat_tests, bind-if, need-if, node_in-ok, and_from)
 
 pub fit : (w : World) (e : Event) → is_possible w e ≡ true → is_fit w e ≡ true
 unfolding is_possible
-fit w e h = if_ok (is_fit w e ≡ true) (check anybodys w (asker e) (act_of w e)) h (fits w e)
+fit w e h = grind (arith, nat_tests, false≢true, is_fit w e ≡ true, check anybodys w (asker e) (act_of w e), fits w e)
 
 -- a legal event is possible
 pub legal_possible : (r : RosterValue) (w : World) (e : Event) → is_legal r w e ≡ true → is_possible w e ≡ true
 unfolding is_possible is_legal
-legal_possible r w e h = grind (arith, nat_tests, ok-bind, ok-need, ok-from)
+legal_possible r w e h = grind (arith, nat_tests, ok-bind, ok-from)
 
 -- the student of a legal move owns its node
 pub legal_owned : (r : RosterValue) (w : World) (s i : ℕ) (q : Rule) → is_legal r w (event.Grant s i q) ≡ true → owns r (who.Student s) i ≡ true
 unfolding is_legal
-legal_owned r w s i q h = grind (arith, nat_tests, ok-bind, ok-need, node_in-ok)
+legal_owned r w s i q h = grind (arith, nat_tests, ok-bind, node_in-ok)
 
 -- ---- the act that asks for the event of a granted act
 
 -- looking up a node of the world finds it
 pub node_back : (w : World) (i : ℕ) (d : Denial) → i < size w → ok_or (node_in w i) d ≡ Ok i
 node_back w i d l = ap (λ b. ok_or (cond b (Some i) None) d) (lt-ltb i (size w) l)
-
--- if the step `student` finds s, the asker is the student s
-pub asked_by : (x : Who) (s : ℕ) → student x NotOwner ≡ Ok s → x ≡ who.Student s
-asked_by x s h = grind arith
 
 -- if b is true and t succeeds, `need b e` followed by t succeeds
 pub need-well : {B E : Type 0} (b : Bool) (e : E) (t : Result B E) → b ≡ true → is_ok t ≡ true → is_ok (need b e >> t) ≡ true
@@ -78,15 +66,9 @@ module _ (owned : Who → ℕ → Bool) (w : World) (x : Who) where
   abbrev pub IsAgain : Event → Type 0
   IsAgain e = is_ok (check owned w (asker e) (act_of w e)) ≡ true
 
-  pointed_there : (p : Option (Option ℕ)) (q : Option ℕ) → pointer p BadRegister ≡ Ok q → IfSome p (λ o. IfSome o (λ j. j < size w)) → IfSome q (λ j. j < size w)
-  pointed_there p q e h = grind arith
-
-  pointer_back : (q : Option ℕ) → IfSome q (λ j. j < size w) → pointer (option_map (node_in w) q) BadRegister ≡ Ok q
-  pointer_back q h = grind (arith, nat_tests, node_back)
-
   -- if all clauses of an act hold, and lead to an event, those of the act that asks for this event hold, too
   pub again : (a : Act) → AreAllThere (size w) a → IfOk (check owned w x a) IsAgain
-  again a there = grind (arith, nat_tests, bind-if, need-if, node_back, pointed_there, pointer_back, asked_by, eq-eqb)
+  again a there = grind (arith, nat_tests, bind-if, need-if, node_back, eq-eqb)
 
 -- the student of a move owns its node; for other events nothing is required
 abbrev pub has_right_owner : RosterValue → Event → Bool

@@ -92,10 +92,6 @@ still_right s privileged c d lc ld differ e j u = grind (arith, has-privileged, 
 unlike : (s : FinSet nat_cmp) (i a : ℕ) → sets.contains s a ≡ true → sets.contains s i ≡ false → eqb i a ≡ false
 unlike s i a h k = ne_eqb i a (λ e. both_ways (sets.contains s i) k (ap (sets.contains s) e ∙ h))
 
-pub cut_differs : (s : FinSet nat_cmp) (n : Network) (a b : ℕ) → IsNetwork n → a < length n.registers → b < length n.registers → sets.contains s a ≡ true
-    → sets.contains s b ≡ true → DifferAt s (configuration_of n) (configuration_of (without_link n a b))
-cut_differs s n a b w la lb ha hb = grind (arith, length-without_link, linked-without_link, unlike, unpointed-at, nulled, length-unpointed)
-
 -- a close changes the configuration only at the nodes with a chosen move
 pub close_differs : (s : FinSet nat_cmp) (w : World) → IsWorld w → AreChosen w.chosen s → DifferAt s (configuration w) (configuration_of (closed w))
 close_differs s w k h = grind (arith, length-moved_registers, moved_at, not_some)
@@ -146,4 +142,4 @@ module _ (s privileged : FinSet nat_cmp) (n n' : Network) (k : IsNetwork n) (rig
       → (j : ℕ) → IsUntouched (configuration_of n') s j → sets.contains privileged j ≡ is_privileged_node (configuration_of n') j
   right_after_cut a b la lb e f =
       right_after s privileged n (without_link n a b) n' k (without_link-lawful n a b k la lb) e
-      (cut_differs s n a b k la lb (has_first s a b f) (has_second s a b f)) right
+      (grind (arith, length-without_link, linked-without_link, unlike, unpointed-at, nulled, length-unpointed, has_first s a b f, has_second s a b f)) right

@@ -1,6 +1,6 @@
 -- The index of a network gives the right answers, and keeps doing so after each change of the network. The suitors of a
 -- node are the nodes that point at it; the index has a row for each node, the set of its suitors.
-use Rattle.std.proofs.Common.{◌≡◌, ℕ, ◌<◌, ◌≤◌, ◌+◌, Bool, true, false, cond, not, ◌&&◌, ◌||◌, eqb, ltb, Option, None, Some, is_none, is_some, List, length, set, sym, refl, ap, ◌∙◌, arith, length-set}
+use Rattle.std.proofs.Common.{◌≡◌, ℕ, ◌<◌, ◌≤◌, ◌+◌, Bool, true, false, cond, not, ◌&&◌, eqb, ltb, Option, None, Some, is_none, is_some, List, length, set, sym, refl, ap, ◌∙◌, arith, length-set}
 use Rattle.std.specs.{Prelude.replicate, Prelude.IfSome, Prelude.IfNone, FinSet.FinSet, Ordering.nat_cmp, Cmp.nat_cmp_total}
 use Rattle.std.proofs.lemmas.Bool.{cases_eq, cases_lt, eq-eqb, ne_eqb, eqb-true, eqb-false, lt-ltb, le-ltb, and_right, and_parts, and_from, both_ways, false_from_ne_true}
 use Rattle.std.proofs.lemmas.List.{get_or-replicate, length-replicate}
@@ -26,14 +26,6 @@ length-with_suitor rows p k = grind (arith, length-with_neighbour)
 pub length-without_suitor : (rows : List (FinSet nat_cmp)) (p : Option ℕ) (k : ℕ) → length (without_suitor rows p k) ≡ length rows
 length-without_suitor rows p k = grind (arith, length-without_neighbour)
 
-pub has-with_suitor : (rows : List (FinSet nat_cmp)) (p : Option ℕ) (k i j : ℕ) → ((x : ℕ) → p ≡ Some x → x < length rows)
-    → sets.contains (neighbours_at (with_suitor rows p k) i) j ≡ ((holds p i && eqb j k) || sets.contains (neighbours_at rows i) j)
-has-with_suitor rows p k i j l = grind (arith, has-with_neighbour, turned)
-
-pub has-without_suitor : (rows : List (FinSet nat_cmp)) (p : Option ℕ) (k i j : ℕ) → ((x : ℕ) → p ≡ Some x → x < length rows)
-    → sets.contains (neighbours_at (without_suitor rows p k) i) j ≡ (not (holds p i && eqb j k) && sets.contains (neighbours_at rows i) j)
-has-without_suitor rows p k i j l = grind (arith, has-without_neighbour, turned)
-
 -- if b is the opposite of `is_some o`, it is `is_none o`
 pub none_told : (o : Option ℕ) (b : Bool) → is_some o ≡ not b → b ≡ is_none o
 none_told o b h = grind arith
@@ -49,15 +41,12 @@ pub no_rows : (registers : List Regs) (rows : List (FinSet nat_cmp)) (free belie
     → rows ≡ replicate (length registers) (sets.empty {R = nat_cmp}) → free ≡ sets.empty → believing ≡ sets.empty → AreRows registers 0 rows free believing
 no_rows registers rows free believing is e f = grind (arith, length-replicate, get_or-replicate, has_empty, below_none, is_none)
 
-next_other : (j k : ℕ) → eqb j k ≡ false → ltb j (k + 1) ≡ ltb j k
-next_other j k e = grind (arith, cases_lt, lt-ltb, eqb-false, le-ltb)
-
 next_here : (j k : ℕ) → eqb j k ≡ true → (ltb j (k + 1) ≡ true) × (ltb j k ≡ false)
 next_here j k e = let s = eqb-true j k e in (lt-ltb j (k + 1) (omega arith), le-ltb j k (omega arith))
 
 -- the numbers below k + 1 that pass are those below k that pass, and k if it passes
 pub below_next : (test : ℕ → Bool) (j k : ℕ) (b : Bool) → b ≡ test k → cond (eqb j k) b (ltb j k && test j) ≡ (ltb j (k + 1) && test j)
-below_next test j k b is = grind (arith, eqb-true, next_here, next_other)
+below_next test j k b is = grind (arith, eqb-true, next_here, cases_lt, lt-ltb, eqb-false, le-ltb)
 
 -- if node k is added to the index of the nodes below k, it is the index of the nodes below k + 1
 pub next_rows : (registers : List Regs) (k : ℕ) (p : Option ℕ) (m : Bool) (rows rows' : List (FinSet nat_cmp))
@@ -68,7 +57,7 @@ pub next_rows : (registers : List Regs) (k : ℕ) (p : Option ℕ) (m : Bool) (r
     → ((j : ℕ) → sets.contains believing' j ≡ cond (eqb j k) m (sets.contains believing j))
     → AreRows registers (k + 1) rows' free' believing'
 next_rows registers k p m rows rows' free believing free' believing' are l pk mk is f b =
-    grind (arith, length-with_suitor, has-with_suitor, is_none, below_next, next_here, eqb-true, and_right, next_other)
+    grind (arith, length-with_suitor, has-with_neighbour, turned, is_none, below_next, next_here, eqb-true, and_right, cases_lt, lt-ltb, eqb-false, le-ltb)
 
 -- ---- the rows after a node's registers have changed
 
@@ -82,7 +71,7 @@ pub rows-set : (registers : List Regs) (a : ℕ) (p : Option ℕ) (x : Regs) (ro
     → ((j : ℕ) → sets.contains believing' j ≡ cond (eqb j a) x.m (sets.contains believing j))
     → AreRows (set registers a x) (length (set registers a x)) rows'' free' believing'
 rows-set registers a p x rows rows' rows'' free believing free' believing' are l pa old new is is' f b =
-    grind (arith, length-with_suitor, length-set, has-with_suitor, has-without_suitor, is_none, length-without_suitor, registers_at-set, eqb-true, lt-ltb)
+    grind (arith, length-with_suitor, length-set, has-with_neighbour, turned, has-without_neighbour, is_none, length-without_suitor, registers_at-set, eqb-true, lt-ltb)
 
 -- ---- answers from the rows
 

@@ -72,14 +72,10 @@ pub chosen_at-set : (chosen : List (Option Rule)) (a i : ℕ) (o : Option Rule) 
     → chosen_at (set chosen a o) i ≡ cond (eqb i a) o (chosen_at chosen i)
 chosen_at-set chosen a i o l = grind (arith, cases_eq, get_or-set_same, eq-eqb, get_or-set_other, ne_eqb)
 
-hold-set : (c : Configuration) (chosen : List (Option Rule)) (a : ℕ) (o : Option Rule) → a < length chosen → ((r : Rule) → o ≡ Some r → guard c a r ≡ true)
-    → AllHold c (chosen_at chosen) → AllHold c (chosen_at (set chosen a o))
-hold-set c chosen a o l h all i r e = grind (arith, chosen_at-set, eqb-true)
-
 -- a lawful world stays lawful if a node gets a move whose guard holds, or no move
 pub choosing-world : (w : World) (a : ℕ) (o : Option Rule) → a < size w → ((r : Rule) → o ≡ Some r → guard (configuration w) a r ≡ true) → IsWorld w
     → IsWorld (choosing w a o)
-choosing-world w a o l h k = grind (arith, length-set, hold-set)
+choosing-world w a o l h k = grind (arith, length-set, chosen_at-set, eqb-true)
 
 -- if a node's pointer may lead to j, the node is linked to j
 pub may_point-linked : (n : Network) (i j : ℕ) (o : Option ℕ) → may_point (configuration_of n) i o ≡ true → o ≡ Some j

@@ -1,6 +1,7 @@
 -- What holds of a house that failed. The book of a house has the granted events, the board after them and their
 -- journal. The places of a window are the numbers of the events that it was granted. The places went astray if those of
 -- all windows aren't those of the book's events, each once. The log of a house is its result at the end.
+use Rattle.std.proofs.{lemmas.Bool.Decides.nat_tests, Common.arith}
 use Rattle.std.proofs.{Common.◌≡◌, Common.◌≤◌, Common.◌+◌, Common.ℕ, Common.List, Common.All, Common.length, Common.Option, Common.subst, KnownBytes.Appends-nil}
 use mathlib.Core.List.{IsPrefix}
 use Rattle.mml_lab.specs.Labs.{LabValue}
@@ -26,17 +27,12 @@ module _ {S R W : Type 0} (lab : LabValue) (sink : S → Option (List ℕ)) (rem
     (to_come : Option (List (R × W))) (count : ℕ) where
   pub early_so : (sessions : List (EndedSession R W)) (windows : List WindowValue) → ServesWindows lab remaining contents to_come count sessions windows
       → (f : ServeFault) → EndsWithout lab sink windows f → EndsEarly lab sink remaining contents to_come count f
-  early_so sessions windows serves fault.Memory without = tt
-  early_so sessions windows serves fault.Astray without = record { sessions = sessions; windows = windows; serves = serves; astray = without }
-  early_so sessions windows serves _ without = absurd without
+  early_so sessions windows serves f without = grind (arith, nat_tests) steps 400000
 
   -- if there is no log, nothing was written
   pub badly_early : (wrote : Option (List ℕ)) (f : ServeFault) → EndsEarly lab sink remaining contents to_come count f
       → EndsBadly lab sink remaining contents to_come count wrote wrote f
-  badly_early wrote fault.Astray early = (early, Appends-nil wrote)
-  badly_early wrote fault.Halted early = absurd early
-  badly_early wrote fault.Write early = absurd early
-  badly_early wrote _ early = Appends-nil wrote
+  badly_early wrote f early = grind (arith, nat_tests, Appends-nil) steps 400000
 
   -- if there is a log, the error is the reason why its last line wasn't written whole
   pub badly_logged : (sessions : List (EndedSession R W)) (log : Log S) → ServesHouse lab sink remaining contents to_come count sessions log

@@ -1,6 +1,6 @@
 -- The connections that came and were served so far, and then one more.
-use Rattle.std.proofs.Common.{◌≡◌, ◌≤◌, ℕ, ◌+◌, List, [], ◌∷◌, ◌++◌, All, drop, map, length, append_assoc, length-append, length-drop, arith, refl, Option, IfOk, Result, Ok, Err}
-use Rattle.std.proofs.lemmas.List.{map-append, length-map, Elements.All-drop}
+use Rattle.std.proofs.lemmas.{Bool.Decides.nat_tests, List.map-append, List.length-map, List.Elements.All-drop}
+use Rattle.std.proofs.Common.{◌≡◌, ◌≤◌, ℕ, ◌+◌, List, [], ◌∷◌, ◌++◌, All, drop, map, length, append_assoc, length-append, length-drop, arith, refl, Option, IfOk, Result}
 use Rattle.mml_lab.specs.Labs.{LabValue}
 use Rattle.mml_window.specs.Windows.{WindowValue, window}
 use Rattle.mml_serving.specs.{declared.connection.Connection.Connection, declared.connection.EndedSession.EndedSession, Arriving.Takes}
@@ -38,9 +38,7 @@ module _ {R W : Type 0} (lab : LabValue) (remaining : R → Option (List ℕ)) (
       (cs : List (Connection R W)) (r : Result X E)
       → Takes to_come left (map ends_of cs) → length cs ≡ count → Numbered 1 cs → IfOk r (λ p. Each (IsServed lab remaining contents) cs (sessions p) (windows p))
       → IfOk r (λ p. ServesAll lab remaining contents to_come count (sessions p) (windows p))
-  all_came sessions windows left cs (Ok p) came all numbered served =
-      record { connections = cs; left = left; came = came; all = all; numbered = numbered; served = served }
-  all_came sessions windows left cs (Err e) came all numbered served = tt
+  all_came sessions windows left cs r came all numbered served = grind (arith, nat_tests) steps 400000
 
 -- there are as many windows as connections
 pub each_long : {A B C : Type 0} (P : A → B → C → Type 0) (xs : List A) (ys : List B) (zs : List C) → Each P xs ys zs → length zs ≡ length xs

@@ -1,4 +1,4 @@
-use Rattle.std.proofs.{Common.◌≡◌, Common.[], Common.List, Common.arith, Common.ap, Common.length, Common.length-drop, lemmas.List.Elements.All-take}
+use Rattle.std.proofs.{lemmas.Bool.Decides.nat_tests, Common.◌≡◌, Common.[], Common.List, Common.arith, Common.ap, Common.length, Common.length-drop, lemmas.List.Elements.All-take}
 use Rattle.mml_window.specs.Windows.{WindowValue, window}
 use Rattle.mml_serving.specs.Serving.{IsServed}
 use Rattle.mml_serving.proofs.{EndingsLemmas.early_so, ServingLemmas.each_long, ServingLemmas.serves_windows}
@@ -27,8 +27,4 @@ returns-in-Ok-end_house-clause-served g c = record {
 }
 
 pub returns-in-Ok-serve_all-clause-early : goal.returns-in-Ok-serve_all-clause-early
-returns-in-Ok-serve_all-clause-early g c =
-    early_so _ _ _ _ _ _ _ _
-    (serves_windows _ _ _ _ _ _ _ _ _ _ c.in-Ok-serve_all.ensures c.from.ensures c.in-Ok-split_off.ensures.tail c.in-Ok.ensures.count
-    c.requires.few c.in-Ok.ensures.windows)
-    c.in-Err.fault c.in-Err.ensures.without
+returns-in-Ok-serve_all-clause-early g c = grind (arith, nat_tests, early_so, serves_windows) steps 400000

@@ -1,4 +1,3 @@
-use Rattle.std.proofs.Common.{refl}
 use Rattle.mml_serving.proofs.serving.serve_on.Goals as goal
 
 pub returns-in-Ok-clause-served : goal.returns-in-Ok-clause-served

@@ -1,4 +1,4 @@
-use Rattle.std.proofs.{Common.◌≡◌, Common.◌∙◌, Common.ap, Common.arith, Common.map, lemmas.List.length-map}
+use Rattle.std.proofs.{Common.◌≡◌, Common.◌∙◌, Common.arith, Common.map, lemmas.List.length-map}
 use Rattle.mml_serving.proofs.ServingLemmas.{numbered_so, came_so, all_came}
 use Rattle.mml_serving.proofs.seating.Shared.serve_each.Goals as goal
 
