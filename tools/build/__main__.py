@@ -5,7 +5,7 @@
 
 Proofs run on all processors, and proofs that this machine has made before are used again, unless the toolchain is too
 old for that. The status is 0 if all these programs are built, 1 if not, and 127 if the toolchain that builds them is
-missing. After a signal the build ends by that signal, and the finished proofs are kept.
+missing. After a signal the build ends by that signal. The finished proofs are then kept, with the same exception.
 """
 from __future__ import annotations
 
