@@ -1,11 +1,9 @@
 -- Each student who is known in a record is a student of the lab, and is denied something only by clauses 1 to 4.
 use Rattle.std.proofs.Common.{◌≡◌, ℕ, Bool, true, List, [], ◌∷◌, length, take, sym, subst, Option, None, Some, arith}
-use Rattle.std.specs.Prelude.{IfSome, option_map, if◌then◌else◌}
-use Rattle.std.proofs.lemmas.{List.Quantifiers.position-Some, Bool.Decides.nat_tests}
+use Rattle.std.{specs.Prelude.IfSome, specs.Prelude.option_map, specs.Prelude.if◌then◌else◌, proofs.lemmas.List.Quantifiers.position-Some, proofs.lemmas.Bool.Decides.nat_tests}
 use Rattle.mml_lab.specs.{declared.who.Who.Who, Labs.LabValue, Rosters.IsPrincipal, Rosters.principal, Rosters.has_name_and_key}
 use Rattle.mml_board.specs.declared.event.Event.{Event}
-use Rattle.mml_codec.specs.declared.{request.Request.Request, reply.Reply.Reply}
-use Rattle.mml_codec.specs.Greetings.{greeting}
+use Rattle.mml_codec.specs.{declared.request.Request.Request, declared.reply.Reply.Reply, Greetings.greeting}
 use Rattle.mml_tally.specs.{declared.ask.Ask.Ask, declared.student_denials.StudentDenial.StudentDenial, StudentDenials.clause_named, AskMeaning.is_numbered, AskMeaning.IsKnownOf, AskMeaning.AreAsksOf}
 use Rattle.mml_record.specs.{declared.kept_entry.Entry.Entry, Certified.FitsGreeting, Certified.Fits, Asks.student_of, Asks.clause_in, Asks.AreAskedOf}
 use Rattle.mml_record.proofs.NamedAskersLemmas.{named_of}

@@ -46,8 +46,7 @@ shown_unhalted r shown = grind (arith, nat_tests)
 
 module _ (lab : LabValue) where
   one_more : (p : ℕ) (b : Bool) (ps qs rs : List ℕ) → rs ≡ ps ++ qs → (if b then p ∷ rs else rs) ≡ (if b then p ∷ ps else ps) ++ qs
-  one_more p true ps qs rs is = ap (λ (xs : List ℕ). p ∷ xs) is
-  one_more p false ps qs rs is = is
+  one_more p b ps qs rs is = grind (arith, nat_tests)
 
   refused_append : (es fs : List Entry) → refused_at lab (all_kept (es ++ fs)) ≡ refused_at lab (all_kept es) ++ refused_at lab (all_kept fs)
   refused_append [] fs = refl
@@ -60,13 +59,7 @@ module _ (lab : LabValue) where
   counted_none old new same = record { halts = omega (arith, ap (λ (w : WindowValue). w.halts) same); spare = omega (arith, ap (λ (w : WindowValue). w.spare) same) }
 
   pub counted_append : (old mid new : WindowValue) (es fs : List Entry) → AreCounted lab old mid es → AreCounted lab mid new fs → AreCounted lab old new (es ++ fs)
-  counted_append old mid new es fs first rest =
-      let ps = refused_at lab (all_kept es) in
-      let qs = refused_at lab (all_kept fs) in
-      let all = refused_append es fs in record {
-        halts = omega (arith, first.halts, rest.halts, ap length all, length-append ps qs);
-        spare = omega (arith, first.spare, rest.spare, ap (sum_by (λ p. lab.events - p)) all, sum_by-append (λ p. lab.events - p) ps qs);
-      }
+  counted_append old mid new es fs first rest = grind (arith, nat_tests, refused_append, length-append, sum_by-append)
 
   module _ (st next : Standing) (line : List ℕ) (r : Reply) (turn : Turn lab st line r next) (short : IsWithinLimit MAX_REQUEST line) where
     abbrev one : LineTurn lab st next
@@ -74,11 +67,7 @@ module _ (lab : LabValue) where
 
     by_halt : (p : ℕ) (b : Bool) → nat_lt 0 (halts_in r) ≡ b → p ≡ judged_at (length next.window.seen) r
         → (length (if b then p ∷ [] else []) ≡ halts_in r) × (sum_by (λ p. lab.events - p) (if b then p ∷ [] else []) ≡ spare_in (lab.events - length next.window.seen) r)
-    by_halt p true is at =
-        let h = halted_is (lab.events - length next.window.seen) r is in
-        let here : p ≡ length next.window.seen = omega (arith, at, ap length h.2) in
-        (sym h.0, omega (arith, sum_by-cons (λ p. lab.events - p) p [], h.1, here))
-    by_halt p false is at = let h = unhalted_is (lab.events - length next.window.seen) r is in (sym h.0, sym h.1)
+    by_halt p b is at = grind (arith, nat_tests, halted_is, sum_by-cons, unhalted_is)
 
     said_counted : AreCounted lab st.window next.window (said (judged_at (length next.window.seen) r) line (reply_line lab.ids lab.roster r))
     said_counted =
@@ -88,10 +77,7 @@ module _ (lab : LabValue) where
 
     by_shown : (b : Bool) → is_shown r ≡ b
         → AreCounted lab st.window next.window (if b then [] else said (judged_at (length next.window.seen) r) line (reply_line lab.ids lab.roster r))
-    by_shown true shown =
-        let h = unhalted_is (lab.events - length next.window.seen) r (shown_unhalted r shown) in
-        record { halts = omega (arith, turn_halts lab st next one, h.0); spare = omega (arith, turn_spares lab st next one, h.1) }
-    by_shown false shown = said_counted
+    by_shown b shown = grind (arith, nat_tests, unhalted_is, shown_unhalted, turn_halts, turn_spares, said_counted)
 
     -- a turn is counted as its entry demands
     pub turn_counted : AreCounted lab st.window next.window (turn_entries lab line r next.window)
@@ -131,8 +117,7 @@ module _ (lab : LabValue) where
 
   module _ (l : List Event) where
     first_most : (p : ℕ) (b : Bool) (ps : List ℕ) → p ≤ length l → All (λ p. p ≤ length l) ps → All (λ p. p ≤ length l) (if b then p ∷ ps else ps)
-    first_most p true ps le rest = All-cons (λ p. p ≤ length l) p ps le rest
-    first_most p false ps le rest = rest
+    first_most p b ps le rest = grind (arith, nat_tests, All-cons)
 
     -- no entry of a record names more events than the list has
     refused_most : (known : Option Who) (stage : Stage) (least : ℕ) (es : List KeptEntry) (ps : List ℕ) → GoesOn lab l known stage least es ps

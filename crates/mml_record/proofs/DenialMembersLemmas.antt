@@ -1,6 +1,5 @@
 -- The members of a reply's JSON text from `clause` on. A denial has them, and no other reply.
-use Rattle.std.proofs.lemmas.Bool.Decides.{nat_tests}
-use Rattle.std.proofs.Common.{◌≡◌, ℕ, List, ◌∷◌, ◌++◌, decimal, refl, ◌∙◌, Option, None, arith}
+use Rattle.std.proofs.{lemmas.Bool.Decides.nat_tests, Common.◌≡◌, Common.ℕ, Common.List, Common.◌∷◌, Common.◌++◌, Common.decimal, Common.refl, Common.◌∙◌, Common.Option, Common.None, Common.arith}
 use Rattle.mml_lab.specs.Rosters.{RosterValue}
 use Rattle.mml_codec.specs.{declared.reply.Reply.Reply, Facts.object_text, Replies.text}
 use Rattle.mml_journal.proofs.CuttingLemmas.{cut_here}

@@ -6,9 +6,8 @@ use Rattle.mml_lab.specs.{declared.who.Who.Who, Labs.LabValue}
 use Rattle.mml_board.specs.declared.event.Event.{Event}
 use Rattle.mml_codec.specs.{declared.reply.Reply.Reply, Replies.place_in, Replies.reply_line}
 use Rattle.mml_session.specs.Turns.{is_bye, places_in, halts_in}
-use Rattle.mml_record.specs.{declared.kept_entry.Entry.Entry, declared.stage.Stage.Stage, Losses.are_cut}
+use Rattle.mml_record.specs.{declared.kept_entry.Entry.Entry, declared.stage.Stage.Stage, Losses.are_cut, Halts.outlived}
 use Rattle.mml_record.specs.Certified.{phase_after, stage_at, stage_after, may_grant, is_journal, seen_after, GoesOn, first_stage}
-use Rattle.mml_record.specs.Halts.{outlived}
 use Rattle.mml_record.proofs.{FallLemmas.never_fall, OutlivedLemmas.first_of_life, OutlivedLemmas.none_at_end, OutlivedLemmas.none_at_cut, OutlivedLemmas.falls_to, OutlivedLemmas.said_within}
 use Rattle.mml_record.proofs.RecordLemmas.{journal_line}
 use Rattle.mml_codec.specs.declared.reply.Refused.TheVariants as refused
@@ -34,11 +33,9 @@ module _ (lab : LabValue) (l : List Event) where
       let next = stage_after lab stage (phase_after (is_bye h.3)) out in
       let rest = granted_none h.4 next (seen_after p (place_in h.3)) es h.5 (still_halted stage.is_halted (is_journal lab out) halted) uncut h.10 in
       h.9 ∙ (λ t. none t ++ rest t)
-  granted_none known stage least (entry.Left p ∷ es) ps halted uncut h =
-      granted_none None (stage_at phases.Open stage.is_halted) p es ps halted uncut h.2
+  granted_none known stage least (entry.Left p ∷ es) ps halted uncut h = granted_none None (stage_at phases.Open stage.is_halted) p es ps halted uncut h.2
   granted_none known stage least (entry.Unrecorded p ∷ es) ps halted uncut h = absurd (false≢true (sym uncut))
-  granted_none known stage least (entry.Paused p ∷ es) ps halted uncut h =
-      granted_none known (stage_at phases.Paused stage.is_halted) p es ps halted uncut h.2
+  granted_none known stage least (entry.Paused p ∷ es) ps halted uncut h = granted_none known (stage_at phases.Paused stage.is_halted) p es ps halted uncut h.2
   granted_none known stage least (entry.Resumed p missed ∷ es) ps halted uncut h =
       granted_none known (stage_at phases.Resuming stage.is_halted) p es ps halted uncut h.4
 

@@ -35,8 +35,7 @@ refuses_so ruled why may = grind (arith, nat_tests)
 
 -- a window that has counted no refusal `journal` may be granted any event
 pub unhalted_new : (o : Option ℕ) → IfSome o (λ place. zero ≡ zero)
-unhalted_new None = tt
-unhalted_new (Some place) = refl
+unhalted_new o = grind (arith, nat_tests)
 
 module _ (lab : LabValue) (l : List Event) (legal : is_legal_in lab l ≡ true) (p : ℕ) (few : p ≤ length l) where
   -- what the window has seen, and which places it has, after a reply that was judged after p events
@@ -112,8 +111,7 @@ module _ (lab : LabValue) (l : List Event) (legal : is_legal_in lab l ≡ true) 
   pub turns_all : (w : WindowValue) (known known' : Option Who) (line : List ℕ) (r : Reply) → w.seen ≡ take p l
       → Fits lab l (take p l) known line r known' → IfSome (place_in r) (λ place. w.halts ≡ 0)
       → (new : WindowValue) × Turn lab (standing known w) line r (standing known' new) × IsAfter w r new
-  turns_all w known known' line r same (inl fits) unhalted =
-      let t = asked w known known' (request_in line) r (inl same) fits unhalted in (t.0, inl t.1, t.2)
+  turns_all w known known' line r same (inl fits) unhalted = let t = asked w known known' (request_in line) r (inl same) fits unhalted in (t.0, inl t.1, t.2)
   turns_all w known known' line r same (inr fits) unhalted = (w, inr (fits.0, ap (λ (k : Option Who). standing k w) fits.1), stays_after w r same (ap place_in fits.0))
 
   -- a reply that fits after p events is that of a turn of each window that has seen at most these, if the line makes

@@ -361,14 +361,7 @@ module _ (lab : LabValue) (is : IsLab lab) (l : List Event) (number : ℕ) where
         (subst (λ (b : Bool). GoesOn lab l None (stage_at phases.Open b) p (all_kept es) ps) (sym same) h.2) all h.1 whole ended))
 
     left_bye : (p : ℕ) (es : List Entry) → Walks es → AfterBye (entry.Left p ∷ es)
-    left_bye p es walks w least ps h seen few whole ended = at h.0.1
-      where
-        at : (p ≡ least) ⊎ (may_rise lab None phases.Over (kept.Left p) ≡ true)
-            → (later : List Entry) × (entry.Left p ∷ es ≡ left_at w ++ later) × Seat w later ps
-        at (inl same) =
-            let all : w.seen ≡ take p l = seen ∙ ap (λ (n : ℕ). take n l) (sym same) in
-            (es, ap (λ (n : ℕ). entry.Left n ∷ es) (count_of w p h.1 all), walks.2 w p ps h.2 all h.1 whole ended)
-        at (inr bad) = absurd (false≢true bad)
+    left_bye p es walks w least ps h seen few whole ended = grind (arith, nat_tests, count_of, false≢true)
 
     seat_none : (w : WindowValue) (least : ℕ) (ps : List ℕ) → w.seen ≡ take least l → ps ≡ [] → Seat w [] ps
     seat_none w least ps seen none =

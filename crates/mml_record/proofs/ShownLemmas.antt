@@ -1,9 +1,8 @@
 -- A participant who sees a node can be shown something at any time. A reply shows something if it is that to a see, a
 -- look or a report. The known participant is the one whose hello was granted in the session.
-use Rattle.std.{proofs.lemmas.Bool.Decides.nat_tests, specs.List.All, proofs.lemmas.Bool.or_right, proofs.lemmas.Bool.false≢true}
-use Rattle.std.{proofs.lemmas.Fmt.length-decimal-le, proofs.lemmas.List.get_or_default}
-use Rattle.std.proofs.Common.{◌≡◌, ◌≢◌, ℕ, ◌<◌, ◌≤◌, ◌^◌, true, List, ◌∷◌, [], ◌++◌, codes, decimal, length, slice_index, refl, sym, subst, Option, None, Some}
-use Rattle.std.proofs.Common.{Ok, arith, length-append}
+use Rattle.std.{proofs.lemmas.Bool.Decides.nat_tests, specs.List.All, proofs.lemmas.Bool.or_right, proofs.lemmas.Bool.false≢true, proofs.lemmas.Fmt.length-decimal-le}
+use Rattle.std.{proofs.lemmas.List.get_or_default}
+use Rattle.std.proofs.Common.{◌≡◌, ◌≢◌, ℕ, ◌<◌, ◌≤◌, ◌^◌, true, List, ◌∷◌, [], ◌++◌, codes, decimal, length, slice_index, refl, sym, subst, Option, None, Some, Ok, arith, length-append}
 use Rattle.mml_ids.specs.{Lines.IsUnbroken, Ids.rank_in}
 use Rattle.mml_ids.proofs.{SearchLemmas.some_below-find, GivesLemmas.bind-from, GivesLemmas.need-from, IdsLemmas.rank_of_id}
 use Rattle.mml_lab.specs.{declared.who.Who.Who, Labs.LabValue, Labs.IsLab, Rosters.owns}
