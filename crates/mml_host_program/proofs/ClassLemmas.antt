@@ -1,13 +1,8 @@
 -- What `verify` and `tally` have written about a class.
-use Rattle.std.proofs.Common.{◌≡◌, ◌<◌, ◌++◌, ℕ, List, true, false, subst, sym, ◌∙◌, length, take, Option, Result, Ok, Err}
+use Rattle.std.proofs.Common.{◌≡◌, ◌<◌, ℕ, List, subst, sym, length, take, Option, Result, Ok, Err}
 use Rattle.std.specs.{Prelude.OnOk, Prelude.IfOk, Prelude.IfErr, Io.KnownBytes.Appends}
-use Rattle.mml_lab.specs.Labs.{LabValue}
-use Rattle.mml_board.specs.{declared.event.Event.Event, World.World, Lists.world_in}
-use Rattle.mml_audit.specs.AuditMeaning.{IsJournalOf}
-use Rattle.mml_tally.specs.{declared.ask.Ask.Ask, RecordTexts.recorded_text, Rounds.rounds_line}
-use Rattle.mml_class.specs.{declared.class_record.ClassRecord.ClassRecord, Classes.IsClassRecord}
-use Rattle.mml_host_program.specs.{declared.judging.class_error.ClassError.ClassError, Verifying.verified_text}
-use Rattle.mml_host_program.specs.Judging.{IsVerified, IsTallied, IsWritten, IsUnwritten}
+use Rattle.mml_host_program.specs.{declared.judging.class_error.ClassError.ClassError}
+use Rattle.mml_host_program.specs.Judging.{IsWritten, IsUnwritten}
 use Rattle.mml_host_program.specs.declared.judging.class_error.ClassError.TheVariants as error
 
 pub weaker_ok : {X E : Type 0} (r : Result X E) (P Q : X → Type 0) → ((x : X) → P x → Q x) → IfOk r P → IfOk r Q
@@ -39,19 +34,3 @@ module _ (U : ClassError → Type 0) (P : List ℕ → Type 0) (wrote wrote' : O
   none_written never (error.Record why) same untold = (same, untold)
   none_written never error.Memory same untold = same
   none_written never error.Write same untold = absurd (never untold)
-
-module _ (lab : LabValue) (bytes start : List ℕ) (texts : ℕ → List ℕ) where
-  pub verified : (events : List Event) (class : ClassRecord) (text : List ℕ) → IsJournalOf lab events bytes → IsClassRecord lab events false start texts class
-      → text ≡ verified_text lab class.findings (length events) class.begun → IsVerified lab bytes start texts text
-  verified events class text journal is told = record { events = events; class = class; journal = journal; record_of = is; told = told }
-
-  pub tallied : (events : List Event) (class : ClassRecord) (w : World) (asks : List Ask) (text : List ℕ) → IsJournalOf lab events bytes → w ≡ world_in lab events
-      → asks ≡ class.asks.items → IsClassRecord lab events true start texts class → text ≡ recorded_text lab w events class.findings asks ++ rounds_line lab events
-      → IsTallied lab bytes start texts text
-  tallied events class w asks text journal leads same is told = record {
-    events = events;
-    class = class;
-    journal = journal;
-    record_of = is;
-    told = told ∙ (λ k. recorded_text lab (leads k) events class.findings (same k) ++ rounds_line lab events);
-  }

@@ -1,5 +1,5 @@
 -- What the program prints about a class, from its journal and its record.
-use Rattle.std.specs.Prelude.{◌≡◌, ◌<◌, ◌++◌, ℕ, true, false, List, length, take, Option, Err, MatchBool}
+use Rattle.std.specs.Prelude.{◌≡◌, ◌<◌, ◌++◌, ℕ, Bool, true, false, List, length, take, Option, Err, MatchBool}
 use Rattle.std.specs.Io.KnownBytes.{Appends}
 use Rattle.mml_lab.specs.Labs.{LabValue}
 use Rattle.mml_board.specs.{declared.event.Event.Event, Lists.world_in}
@@ -9,24 +9,20 @@ use Rattle.mml_class.specs.{declared.class_record.ClassRecord.ClassRecord, decla
 use Rattle.mml_host_program.specs.{declared.judging.class_error.ClassError.ClassError, Verifying.verified_text}
 use Rattle.mml_host_program.specs.declared.judging.class_error.ClassError.TheVariants as error
 
--- The bytes are the journal of a legal list of events. The texts of the seats are the record of a class, and fit this
--- list. The text is the summary of both
-pub record IsVerified (lab : LabValue) (bytes start : List ℕ) (texts : ℕ → List ℕ) (text : List ℕ) : Type 0 where
-  pub events : List Event
-  pub class : ClassRecord
-  pub journal : IsJournalOf lab events bytes
-  pub record_of : IsClassRecord lab events false start texts class
-  pub told : text ≡ verified_text lab class.findings (length events) class.begun
+-- What is printed about a record that fits the events of its journal. `tally` prints the tally of these events, of the
+-- record's findings and of what its lines asked for, and then the line about rounds. `verify` prints a summary
+abbrev pub judged_text : Bool → LabValue → List Event → ClassRecord → List ℕ
+judged_text true lab events class = recorded_text lab (world_in lab events) events class.findings class.asks.items ++ rounds_line lab events
+judged_text false lab events class = verified_text lab class.findings (length events) class.begun
 
 -- The bytes are the journal of a legal list of events. The texts of the seats are the record of a class, and fit this
--- list. The text is the tally of the list, of the record's findings and of what its lines asked, followed by the line
--- about rounds
-pub record IsTallied (lab : LabValue) (bytes start : List ℕ) (texts : ℕ → List ℕ) (text : List ℕ) : Type 0 where
+-- list. The text is what `tally` prints about both, or `verify`
+pub record IsJudged (is_tallied : Bool) (lab : LabValue) (bytes start : List ℕ) (texts : ℕ → List ℕ) (text : List ℕ) : Type 0 where
   pub events : List Event
   pub class : ClassRecord
   pub journal : IsJournalOf lab events bytes
-  pub record_of : IsClassRecord lab events true start texts class
-  pub told : text ≡ recorded_text lab (world_in lab events) events class.findings class.asks.items ++ rounds_line lab events
+  pub record_of : IsClassRecord lab events is_tallied start texts class
+  pub told : text ≡ judged_text is_tallied lab events class
 
 -- the bytes are the journal of a legal list of events, and the texts of the seats aren't a record that fits this list
 pub record IsRefused (lab : LabValue) (bytes start : List ℕ) (texts : ℕ → List ℕ) (why : ClassFault) : Type 0 where

@@ -148,9 +148,11 @@ pub(crate) fn log_of<S: Drop, K: Drop, C: Drop>(house: Hosted<S, K, C>) -> Log<S
 {
     let Hosted {
         log,
-        at_desk: _,
-        others: _,
+        at_desk,
+        others,
     } = house;
+    drop(at_desk);
+    drop(others);
     log
 }
 

@@ -146,7 +146,9 @@ impl From<HostFault> for Fault {
 
     ghost from_gives = { λ fault e. e ≡ of_hosting fault };
 
-    // Turns the reason why serving a class failed into the host's error. A halted journal becomes a journal fault.
+    // Turns the reason why serving a class failed into the host's error. A class ends without the teacher's bye
+    // (`Undismissed`) only if no more connections can be accepted, so this becomes `Accept`. A halted journal becomes a
+    // journal fault.
     fn from(fault: HostFault) -> Fault {
         match fault {
             HostFault::Memory => Fault::Common(ProgramFault::Memory),

@@ -128,7 +128,7 @@ fn open_new<'a, R: System + Files<File = File>>(
 ) -> Result<Opened<'a>, Fault> {
     look_at_limits(rt, rt.alloc())?;
     match task.journal {
-        Some(path) => begin_into(rt, &task.class, path, lab),
+        Some(path) => open_with_journal(rt, &task.class, path, lab),
         None => Ok(Opened {
             journal: None,
             ports: listen_at(rt, task.class.port, task.class.desk)?,
@@ -138,12 +138,12 @@ fn open_new<'a, R: System + Files<File = File>>(
 }
 
 /// Opens what a new class with a journal needs: the journal's file at `path`, then both ports, then the record's folder
-/// if one is named. Returns all of them. The journal is begun only after these steps. If its file is a plain one, the
-/// file is emptied then. Its earlier bytes stay under another name, and a copy of the lab's file, whose bytes are
-/// `lab`, is written beside it. Returns the first error. If the file, the ports or the folder can't be opened, the
-/// journal's file stays as it was. If the journal can't be begun, the record is taken back, and what had its path
-/// before is put back.
-fn begin_into<
+/// if one is named. Returns all of them. Begins the journal only after these steps. If its file is a plain one, this
+/// writes a copy of the lab's file, whose bytes are `lab`, beside it. If the plain file has bytes, it is then kept under
+/// another name, and a new, empty file is made at `path`. Returns the first error. If the file, the ports or the folder
+/// can't be opened, the journal's file stays as it was. If the journal can't be begun, removes the new record, and puts
+/// back what had its path before.
+fn open_with_journal<
     'a,
     R: Files<File = File> + Net<Listener = TcpListener, Stream = TcpStream> + Clock + AllocGlobal,
 >(rt: &R, class: &ClassTask<'_>, path: &'a str, lab: &[u8]) -> Result<Opened<'a>, Fault> {

@@ -9,6 +9,7 @@ mod answering;
 mod class_error;
 mod class_writing;
 mod folder;
+mod judged;
 mod record_refusal;
 mod recorded;
 mod tally;
@@ -20,16 +21,15 @@ use answering::answer;
 pub use class_error::ClassError;
 use class_error::result_of;
 use folder::Folder;
+pub use judged::judge_class;
 use mml_ends::Retrying;
 use mml_lab::Lab;
 use mml_program::{Fault as ProgramFault, lab_of, read_journal};
 pub use record_refusal::RecordRefusal;
-pub use recorded::tally_class;
 use std::fs::File;
 use std::io;
 use std::rt::Files;
 pub use tally::write_tally;
-pub use verifying::verify_class;
 
 /// Does what a judging task asks for. Returns the error that ended the work, if one did.
 pub(crate) fn judge<R: Files<File = File> + Input + Print + AllocGlobal>(
@@ -66,11 +66,7 @@ fn judge_record<R: Files<File = File> + Print + AllocGlobal>(
     let path = task.folder;
     let seats = Folder { rt, path };
     let mut writer = Retrying::new(io::writer(rt));
-    let written = if is_tallied {
-        tally_class(rt.alloc(), &lab, journal, &seats, &mut writer)
-    } else {
-        verify_class(rt.alloc(), &lab, journal, &seats, &mut writer)
-    };
+    let written = judge_class(rt.alloc(), &lab, journal, &seats, is_tallied, &mut writer);
     drop(lab);
     result_of(written, writer.lacked_memory)
 }

@@ -22,7 +22,7 @@ mod words;
 pub use beginning::write_listening;
 pub use fault::Fault;
 pub use journal_watch::{JournalEye, JournalLoss, JournalWatch, Look, WatchedSink};
-pub use judging::{ClassError, RecordRefusal, tally_class, verify_class, write_tally};
+pub use judging::{ClassError, RecordRefusal, judge_class, write_tally};
 pub use limit_table::{print_limits, write_limits};
 pub use old_file::OldFile;
 pub use system::System;

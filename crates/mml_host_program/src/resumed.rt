@@ -155,8 +155,9 @@ struct Opening<'a, R> {
     bell: EndBell<'a, R>,
 }
 
-/// Returns the first line of a class that is served at these ports, and their bell. Returns an error if memory runs
-/// out, or the system refuses the bell's descriptor.
+/// Returns what a class needs before it is served at these ports: its first line of output, which names the ports, and
+/// the bell that wakes the threads of the ports. Returns an error if memory runs out, or the system refuses the bell's
+/// descriptor.
 fn opening_of<'a, R: AllocGlobal>(
     rt: &'a R,
     state: &'a HostState,
@@ -169,7 +170,7 @@ fn opening_of<'a, R: AllocGlobal>(
     Ok(Opening { first, bell })
 }
 
-/// Returns the first line of a class, which names its two ports. Returns `Memory` if memory runs out.
+/// Returns the first line of a class's output, which names its two ports. Returns `Memory` if memory runs out.
 fn first_line(alloc: Global, ports: &Ports) -> Result<Vec<u8>, ProgramFault>
     ensures { IfOk result (λ line. line.items ≡ ports_line ports.now.port ports.now.desk) }
 {

@@ -9,20 +9,13 @@ ghost use Rattle.mml_journal.specs.Words.{seen};
 ghost use Rattle.mml_host_program.specs.Ports.{Names, NamesNone};
 ghost use Rattle.mml_host_program.specs.Words.{tally_in, tally_wanted, verify_in, wanted_by, wanted_in, wanted_over};
 
-use clap::{ArgMatches, Command};
+use clap::ArgMatches;
 use mml_program::{
-    Fault as ProgramFault, Task as ProgramTask, match_words, read_words as read_common_words,
-    subcommand_of, with_optional,
+    Fault as ProgramFault, Subcommand, Task as ProgramTask, command_line, match_words,
+    read_words as read_common_words,
 };
 use mml_serving::read_port as read_some_port;
-use std::alloc::{AllocError, Global};
-
-// A subcommand: its name, the values that it requires in this order, and the values that may follow.
-type Subcommand = (
-    &'static str,
-    &'static [&'static str],
-    &'static [&'static str],
-);
+use std::alloc::Global;
 
 // The subcommands that only the program for people has. `mml_program` has the others.
 const SUBCOMMANDS: &[Subcommand] = &[
@@ -108,11 +101,14 @@ pub fn read_words<'a>(alloc: Global, words: &'a [String]) -> Result<Task<'a>, Pr
     if !has_own_subcommand(words) {
         return Ok(Task::Common(read_common_words(alloc, words)?));
     }
-    let matches = match_words(command_line(alloc, SUBCOMMANDS)?, words)?;
-    match matches.subcommand() {
+    let matches = match_words(command_line(alloc, "mml", SUBCOMMANDS)?, words)?;
+    let task = match matches.subcommand() {
         None => Err(ProgramFault::CommandLine),
         Some((name, values)) => task_of(name, values).ok_or(ProgramFault::CommandLine),
-    }
+    };
+    // A call of `drop` keeps the proof short.
+    drop(matches);
+    task
 }
 
 /// Returns whether the first word after the program's name is a subcommand of `SUBCOMMANDS`, which only the program for
@@ -122,30 +118,6 @@ fn has_own_subcommand(words: &[String]) -> bool {
         Some(word) => SUBCOMMANDS.iter().any(|it| it.0 == word.as_str()),
         None => false,
     }
-}
-
-/// Returns the description of a command line with these subcommands. Returns an error if memory runs out.
-fn command_line<'a>(alloc: Global, subcommands: &[Subcommand]) -> Result<Command<'a>, AllocError> {
-    let mut command = subcommand_of(alloc, "mml", &[])?;
-    for (name, required, optional) in subcommands {
-        command = command.subcommand(subcommand_with(alloc, name, required, optional)?)?;
-    }
-    Ok(command)
-}
-
-/// Returns the description of a subcommand with this name. It requires the values named in `required`, after which
-/// those named in `optional` may follow. Returns an error if memory runs out.
-fn subcommand_with<'a>(
-    alloc: Global,
-    name: &'a str,
-    required: &[&'a str],
-    optional: &[&'a str],
-) -> Result<Command<'a>, AllocError> {
-    let mut command = subcommand_of(alloc, name, required)?;
-    for value in optional {
-        command = with_optional(alloc, command, value)?;
-    }
-    Ok(command)
 }
 
 /// Returns the task of the subcommand `name` with these values. Returns `None` if there is no such subcommand, a value

@@ -1,7 +1,7 @@
 use Rattle.std.proofs.Common.{List, subst, sym}
 use Rattle.mml_board.specs.declared.event.Event.{Event}
 use Rattle.mml_audit.specs.AuditMeaning.{IsJournalOf}
-use Rattle.mml_host_program.proofs.judging.recorded.tallied_text.Goals as goal
+use Rattle.mml_host_program.proofs.judging.judged.text_of_class.Goals as goal
 
 pub returns-in-Ok-clause-untold : goal.returns-in-Ok-clause-untold
 returns-in-Ok-clause-untold g c = λ start texts tell.
