@@ -5,7 +5,7 @@ ghost use Rattle.std.specs.Prelude.{◌≡◌, IfSome};
 ghost use Rattle.mml_lab.specs.Rosters.{IsPrincipal};
 ghost use Rattle.mml_codec.specs.Greetings.{denied, admitted, greeting, greeting_with, TakesPart};
 
-use crate::reply::Reply;
+use crate::reply::{Reply, put_in};
 use crate::request::Request;
 use mml_lab::{Roster, Who};
 use mml_policy::{Command, Denial};
@@ -64,7 +64,7 @@ pub fn greet_into(
         }
         (Some(who), Request::Hello { .. }) => deny_into(Denial::Greeted, Some(who), reply),
         (_, Request::Bye) => {
-            *reply = Reply::Bye;
+            put_in(reply, Reply::Bye);
             Greeted::Known(None)
         }
         (None, Request::Do(_)) => deny_into(Denial::NotGreeted, None, reply),
@@ -83,7 +83,7 @@ fn admit_into(found: Option<Who>, reply: &mut Reply) -> Greeted
 {
     match &found {
         Some(who) => {
-            *reply = Reply::Hello(*who);
+            put_in(reply, Reply::Hello(*who));
             Greeted::Known(found)
         }
         None => deny_into(Denial::Unknown, None, reply),
@@ -95,6 +95,6 @@ fn admit_into(found: Option<Who>, reply: &mut Reply) -> Greeted
 fn deny_into(denial: Denial, known: Option<Who>, reply: &mut Reply) -> Greeted
     ensures { greeting_with result reply.new ≡ denied denial known }
 {
-    *reply = Reply::Deny(denial);
+    put_in(reply, Reply::Deny(denial));
     Greeted::Known(known)
 }

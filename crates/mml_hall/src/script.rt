@@ -143,7 +143,10 @@ fn answer_all<R: Read, W: Write, S: Sink>(
         (reader.new ≡ reader.old) × (writer.new ≡ writer.old) }
 {
     let mut buffers = Buffers::new(alloc)?;
-    answer_lines(alloc, hall, &mut buffers, reader, writer)
+    let answered = answer_lines(alloc, hall, &mut buffers, reader, writer);
+    // A call of `drop` keeps the proof short.
+    drop(buffers);
+    answered
 }
 
 /// Answers the lines of the input, one by one, until it ends. The buffers must be new, and the hall just opened.
@@ -344,10 +347,14 @@ fn serve_script_line<W: Write, S: Sink>(
         lab: hall.lab(),
         reply: &reply,
     };
+    // Calls of `drop` keep the proof short.
     if outgoing.append(line.front, &rest) {
+        drop(reply);
         return Ok(());
     }
-    write_by_buffer(alloc, rest, line.front, out, outgoing, writer)
+    let told = write_by_buffer(alloc, rest, line.front, out, outgoing, writer);
+    drop(reply);
+    told
 }
 
 // A reply as the part of an output line after the connection's number.
@@ -423,4 +430,5 @@ fn write_memory_refusal(alloc: Global, lab: &Lab, out: &mut Vec<u8>)
 {
     let told = Reply::Refuse(Refused::Memory);
     write_reply(alloc, lab.ids(), lab.roster(), &told, out).unwrap();
+    drop(told);
 }

@@ -201,7 +201,8 @@ fn first_with_both(nodes: &[RawNode]) -> Option<usize>
     nodes.iter().position(|node| node.both)
 }
 
-/// Returns the table of the nodes' identifiers, or `Id` with the error that `IdTable::new` returns for them.
+/// Returns the table of the nodes' identifiers, or `Id` with the error that `IdTable::new` returns for them. Returns
+/// `Memory` if memory runs out.
 fn id_table(alloc: Global, nodes: &[RawNode]) -> Result<IdTable, LabFault>
     ensures tests { Gives is_lab_memory (λ _. tt {0}) result
         (pass_unless (ids_fault (map node_view nodes.now))) }

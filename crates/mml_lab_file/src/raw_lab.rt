@@ -3,13 +3,14 @@
 //! The kind of a value is its type in TOML. A `Key` names a key of the file in an error. A function with the parameters
 //! `name` and `key` gets one key twice: as a text, and for an error. Each function with the parameter `alloc` returns
 //! `LabFault::Memory` if memory runs out. In a contract, `Gives` means that a function returns the result that a
-//! definition names, or `Memory` if memory runs out.
+//! definition names, or `Memory` if memory runs out. Values are dropped by calls of `drop` before a function returns,
+//! which keeps the proofs short.
 ghost use Rattle.std.specs.Prelude.{◌≡◌, map, string_bytes, codes, Some, None, Ok, Err, option_map, ok_or};
 ghost use Rattle.mml_ids.specs.Gives.{Gives};
 ghost use Rattle.toml.specs.Data.{as_str, as_integer, as_bool, as_table, as_array, get_member};
 ghost use Rattle.toml.specs.View.{view, table_view, array_view};
 ghost use Rattle.mml_lab_file.specs.Shape.{is_lab_memory, value_under, needed, of_kind, optional_of, optional, names_of, owner_names, each, account_in, student_of};
-ghost use Rattle.mml_lab_file.specs.Shape.{node_of, link_of, links_of, teacher_of, raw_of, two_of, spelled};
+ghost use Rattle.mml_lab_file.specs.Shape.{node_of, link_of, links_of, teacher_of, students_of, nodes_of, raw_of, two_of, spelled};
 ghost use Rattle.mml_lab.specs.AccountView.{account_view};
 ghost use Rattle.mml_lab_file.specs.inside.Raw.{node_view, raw_view};
 
@@ -381,25 +382,63 @@ fn teacher_at(alloc: Global, table: &Table) -> Result<Account, LabFault>
     account_at(alloc, teacher, Key::TeacherName, Key::TeacherKey)
 }
 
+/// Returns the accounts under the key `student` of the file, in order. Returns `Missing` or `WrongKind` if the key is
+/// missing or its value isn't an array, and otherwise the error of the first element that has one.
+#[tactic(auto, unfolding(crate::specs::Shape::students_of))]
+fn students_at(alloc: Global, table: &Table) -> Result<Vec<Account>, LabFault>
+    ensures { Gives is_lab_memory (λ v. map account_view v.items) result (students_of (table_view table.now)) }
+{
+    students(alloc, array_at(table, "student", Key::Student)?)
+}
+
+/// Returns the nodes under the key `node` of the file, in order. Returns `Missing` or `WrongKind` if the key is missing
+/// or its value isn't an array, and otherwise the error of the first element that has one.
+#[tactic(auto, unfolding(crate::specs::Shape::nodes_of))]
+fn nodes_at(alloc: Global, table: &Table) -> Result<Vec<RawNode>, LabFault>
+    ensures { Gives is_lab_memory (λ v. map node_view v.items) result (nodes_of (table_view table.now)) }
+{
+    nodes(alloc, array_at(table, "node", Key::Node)?)
+}
+
 /// Returns the contents of the lab file whose TOML is `table`. Reads the keys in the order of `Key`. Returns the error
 /// of the first key that is missing though required (`Missing`), or whose value is of another kind (`WrongKind`).
-#[tactic(auto, unfolding(crate::specs::Shape::raw_of, crate::specs::Shape::students_of, crate::specs::Shape::nodes_of))]
+#[tactic(auto, unfolding(crate::specs::Shape::raw_of))]
 pub fn read_raw(alloc: Global, table: &Table) -> Result<RawLab, LabFault>
     ensures { Gives is_lab_memory raw_view result (raw_of (table_view table.now)) }
 {
     let events = integer_at(table, "events", Key::Events)?;
     let sessions = integer_at(table, "sessions", Key::Sessions)?;
     let teacher = teacher_at(alloc, table)?;
-    let students = students(alloc, array_at(table, "student", Key::Student)?)?;
-    let nodes = nodes(alloc, array_at(table, "node", Key::Node)?)?;
-    let links = links_at(alloc, table)?;
-    Ok(RawLab {
-        bounds: RawLimits { events, sessions },
-        teacher,
-        students,
-        nodes,
-        links,
-    })
+    let students = match students_at(alloc, table) {
+        Ok(students) => students,
+        Err(fault) => {
+            drop(teacher);
+            return Err(fault);
+        }
+    };
+    let nodes = match nodes_at(alloc, table) {
+        Ok(nodes) => nodes,
+        Err(fault) => {
+            drop(teacher);
+            drop(students);
+            return Err(fault);
+        }
+    };
+    match links_at(alloc, table) {
+        Ok(links) => Ok(RawLab {
+            bounds: RawLimits { events, sessions },
+            teacher,
+            students,
+            nodes,
+            links,
+        }),
+        Err(fault) => {
+            drop(teacher);
+            drop(students);
+            drop(nodes);
+            Err(fault)
+        }
+    }
 }
 
 /// Returns the contents of a lab file from its bytes. Returns `NotToml` if the bytes aren't TOML. Otherwise returns the

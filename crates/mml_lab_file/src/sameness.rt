@@ -16,7 +16,12 @@ pub fn spells_same_lab(alloc: Global, lab: &Lab, bytes: &[u8]) -> Result<bool, M
     ensures { IfOk result (λ same. IsTrue same ↔ SpellsSame lab.now bytes.now) }
 {
     match read_lab(alloc, bytes) {
-        Ok(other) => Ok(is_same_lab(lab, &other)),
+        Ok(other) => {
+            let is_same = is_same_lab(lab, &other);
+            // A call of `drop` keeps the proof short.
+            drop(other);
+            Ok(is_same)
+        }
         Err(LabFault::Memory) => Err(Memory),
         Err(_) => Ok(false),
     }

@@ -17,6 +17,4 @@ pub use files::{
 pub use lab_refusal::{AuditRefusal, LabRefusal};
 pub use script_answering::{answer_script, write_audit, write_pieces, write_size};
 pub use task::{begin_program, command_words, lab_in, lab_of, run, run_task};
-pub use words::{
-    ScriptTask, ServeTask, Task, match_words, read_words, subcommand_of, with_optional,
-};
+pub use words::{ScriptTask, ServeTask, Subcommand, Task, command_line, match_words, read_words};

@@ -54,7 +54,10 @@ pub fn write_audit<W: Write>(
         (TellsAudited lab.now text.now (W.contents writer.old) (W.contents writer.new)) }
 {
     let board = audit(alloc, lab, text)?;
-    write_world(alloc, &board, writer)
+    let written = write_world(alloc, &board, writer);
+    // A call of `drop` keeps the proof short.
+    drop(board);
+    written
 }
 
 /// Writes the line about a journal that passed the audit: the number of its events, the number of the configuration,

@@ -3,8 +3,9 @@
 //! A lab describes a class: its network, its participants and its limits. The journal of a run has a line for each
 //! granted event, and a sink is the destination of its bytes. A sink is fresh if it has no bytes yet. The journal is
 //! halted if a line couldn't be written to it. A house is one run of a lab that threads share. A hall has the state of
-//! a run that answers a script.
-ghost use Rattle.std.specs.Prelude.{◌<◌, ◌≤◌, ◌-◌, ◌^◌, IfOk};
+//! a run that answers a script. Values are dropped by calls of `drop` before a function returns, which keeps the proofs
+//! short.
+ghost use Rattle.std.specs.Prelude.{◌≡◌, ◌<◌, ◌≤◌, ◌-◌, ◌^◌, IfOk};
 ghost use Rattle.mml_journal.specs.Taken.{IsFresh};
 ghost use Rattle.mml_program.specs.Serving.{TellsServed};
 
@@ -16,7 +17,7 @@ use crate::words::{ScriptTask, ServeTask, Task, read_words};
 use mml_ends::{Retrying, hold_streams};
 use mml_files::{OpenJournal, has_small_stacks};
 use mml_hall::Hall;
-use mml_journal::{NullSink, Sink};
+use mml_journal::{FileSink, NullSink, Sink};
 use mml_lab::Lab;
 use mml_lab_file::read_lab;
 use mml_serving::{ServeFault, ServedHouse, Socket, serve_house_on, write_listening};
@@ -73,7 +74,9 @@ pub fn run_task<
 /// be read or doesn't describe a lab, the write fails, or memory runs out.
 fn check_file<R: Files + Print + AllocGlobal>(rt: &R, path: &str) -> Result<(), Fault> {
     let lab = lab_of(rt, path)?;
-    write_size(rt.alloc(), &lab, &mut io::writer(rt))
+    let written = write_size(rt.alloc(), &lab, &mut io::writer(rt));
+    drop(lab);
+    written
 }
 
 /// Answers the script on standard input over the built-in lab, and writes the replies to standard output. If the script
@@ -84,31 +87,53 @@ fn answer_input<R: Input + Print + AllocGlobal>(rt: &R) -> Result<(), Fault> {
     let mut reader = Retrying::new(rt.reader());
     let mut writer = Retrying::new(io::writer(rt));
     match answer_script(alloc, lab, &mut reader, &mut writer, NullSink::new()) {
-        Ok(_) => Ok(()),
+        Ok(hall) => {
+            drop(hall);
+            Ok(())
+        }
         Err(fault) => Err(memory_if_lacked(fault, reader.lacked_memory || writer.lacked_memory)),
     }
 }
 
 /// Answers the script in a file over the lab in a file, and writes a journal if the task names one. If the script can't
-/// be read, `begin_journal_with` leaves the journal's file as it was. Returns an error if one of the files is refused,
-/// the script ended early, or the journal was halted.
+/// be read, the journal's file stays as it was. Returns an error if one of the files is refused, the script ended early,
+/// or the journal was halted.
 fn script_file<R: Files<File = File> + Print + AllocGlobal>(
     rt: &R,
     task: ScriptTask<'_>,
 ) -> Result<(), Fault> {
     let lab = lab_of(rt, task.lab)?;
     match task.journal {
-        Some(path) => {
-            let journal = OpenJournal::open(rt, path, &[task.lab, task.script])?;
-            let script = read_file(rt, task.script, Fault::ReadScript);
-            let (script, sink) = begin_journal_with(rt, journal, script)?;
-            answer_lines(rt, lab, script.as_slice(), sink)
-        }
-        None => {
-            let script = read_file(rt, task.script, Fault::ReadScript)?;
-            answer_lines(rt, lab, script.as_slice(), NullSink::new())
-        }
+        Some(path) => match open_script(rt, &task, path) {
+            Ok((script, sink)) => answer_lines(rt, lab, script, sink),
+            Err(fault) => {
+                drop(lab);
+                Err(fault)
+            }
+        },
+        None => match read_file(rt, task.script, Fault::ReadScript) {
+            Ok(script) => answer_lines(rt, lab, script, NullSink::new()),
+            Err(fault) => {
+                drop(lab);
+                Err(fault)
+            }
+        },
     }
+}
+
+/// Opens the journal's file at `path`, reads the script, and begins the journal. Returns the script and the journal's
+/// sink, which is fresh. Returns an error if one of these steps fails. If the script can't be read, `begin_journal_with`
+/// leaves the journal's file as it was.
+fn open_script<R: Files<File = File> + AllocGlobal>(
+    rt: &R,
+    task: &ScriptTask<'_>,
+    path: &str,
+) -> Result<(Vec<u8>, FileSink), Fault>
+    ensures { IfOk result (λ opened. opened.1 ≡ 0) }
+{
+    let journal = OpenJournal::open(rt, path, &[task.lab, task.script])?;
+    let script = read_file(rt, task.script, Fault::ReadScript);
+    begin_journal_with(rt, journal, script)
 }
 
 /// Answers the lines of a script over a lab, and writes the replies to standard output. The journal's lines go to
@@ -117,26 +142,32 @@ fn script_file<R: Files<File = File> + Print + AllocGlobal>(
 fn answer_lines<R: Print + AllocGlobal, S: Sink + Drop>(
     rt: &R,
     lab: Lab,
-    script: &[u8],
+    script: Vec<u8>,
     sink: S,
 ) -> Result<(), Fault>
     requires fresh { IsFresh (S.contents sink) }
     requires countable { S.failures sink < 2 ^ 64 - 1 }
 {
-    let mut script = script;
+    let mut lines = script.as_slice();
     let mut writer = Retrying::new(io::writer(rt));
-    match answer_script(rt.alloc(), lab, &mut script, &mut writer, sink) {
-        Ok(hall) => fault_if_halted(&hall),
+    let answered = match answer_script(rt.alloc(), lab, &mut lines, &mut writer, sink) {
+        Ok(hall) => fault_if_halted(hall),
         Err(fault) => Err(memory_if_lacked(fault, writer.lacked_memory)),
-    }
+    };
+    drop(script);
+    answered
 }
 
-/// Returns the error `Journal` if the hall's journal was halted while a script was answered, and otherwise `Ok`.
-fn fault_if_halted<S: Sink>(hall: &Hall<S>) -> Result<(), Fault> {
-    if hall.halted() {
-        return Err(Fault::Journal);
+/// Drops the hall. Returns the error `Journal` if its journal was halted while a script was answered, and otherwise
+/// `Ok`.
+fn fault_if_halted<S: Sink + Drop>(hall: Hall<S>) -> Result<(), Fault> {
+    let is_halted = hall.halted();
+    drop(hall);
+    if is_halted {
+        Err(Fault::Journal)
+    } else {
+        Ok(())
     }
-    Ok(())
 }
 
 /// Audits the journal in a file over the lab in a file. Prints the number of its events, the number of the
@@ -148,8 +179,16 @@ fn audit_file<R: Files + Print + AllocGlobal>(
     journal: &str,
 ) -> Result<(), Fault> {
     let lab = lab_of(rt, lab)?;
-    let text = read_journal(rt, journal)?;
-    write_audit(rt.alloc(), &lab, text.as_slice(), &mut io::writer(rt))
+    let audited = match read_journal(rt, journal) {
+        Ok(text) => {
+            let written = write_audit(rt.alloc(), &lab, text.as_slice(), &mut io::writer(rt));
+            drop(text);
+            written
+        }
+        Err(fault) => Err(fault),
+    };
+    drop(lab);
+    audited
 }
 
 /// Serves as many connections as the task says over the lab in a file, and writes a journal if the task names one. If
@@ -168,27 +207,24 @@ fn serve_file<
     let port = task.port.get();
     let connections = task.connections.get();
     if connections > lab.sessions() {
+        drop(lab);
         return Err(Fault::TooManyConnections);
     }
     match task.journal {
-        Some(path) => {
-            let journal = OpenJournal::open(rt, path, &[task.lab])?;
-            let (listener, sink) = begin_journal_with(rt, journal, listen(rt, port))?;
-            let service = Service {
-                listener,
-                port,
-                connections,
-            };
-            serve_listener(rt, lab, service, sink)
-        }
-        None => {
-            let service = Service {
-                listener: listen(rt, port)?,
-                port,
-                connections,
-            };
-            serve_listener(rt, lab, service, NullSink::new())
-        }
+        Some(path) => match open_with_journal(rt, task.lab, path, port, connections) {
+            Ok((service, sink)) => serve_listener(rt, lab, service, sink),
+            Err(fault) => {
+                drop(lab);
+                Err(fault)
+            }
+        },
+        None => match open_service(rt, port, connections) {
+            Ok(service) => serve_listener(rt, lab, service, NullSink::new()),
+            Err(fault) => {
+                drop(lab);
+                Err(fault)
+            }
+        },
     }
 }
 
@@ -198,6 +234,43 @@ struct Service {
     listener: TcpListener,
     port: u16,
     connections: u8,
+}
+
+/// Listens on a port, at which this many connections are to be served. Returns an error if the port can't be used, or
+/// memory runs out.
+fn open_service<R: Net<Listener = TcpListener, Stream = TcpStream>>(
+    rt: &R,
+    port: u16,
+    connections: u8,
+) -> Result<Service, Fault>
+    ensures { IfOk result (λ service. service.connections ≡ connections) }
+{
+    Ok(Service {
+        listener: listen(rt, port)?,
+        port,
+        connections,
+    })
+}
+
+/// Opens the journal's file at `path`, then the port, and begins the journal. `lab` is the path of the lab file, which
+/// can't be the journal's. Returns what is served at the port, and the journal's sink, which is fresh. Returns an error
+/// if one of these steps fails. If the port can't be used, `begin_journal_with` leaves the journal's file as it was.
+fn open_with_journal<
+    R: Files<File = File> + Net<Listener = TcpListener, Stream = TcpStream> + AllocGlobal,
+>(rt: &R, lab: &str, path: &str, port: u16, connections: u8) -> Result<(Service, FileSink), Fault>
+    ensures served { IfOk result (λ opened. opened.0.connections ≡ connections) }
+    ensures fresh { IfOk result (λ opened. opened.1 ≡ 0) }
+{
+    let journal = OpenJournal::open(rt, path, &[lab])?;
+    let (listener, sink) = begin_journal_with(rt, journal, listen(rt, port))?;
+    Ok((
+        Service {
+            listener,
+            port,
+            connections,
+        },
+        sink,
+    ))
 }
 
 /// Prints the line with the port, serves the connections of the service, and prints the last line, which has the

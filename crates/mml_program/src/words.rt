@@ -9,6 +9,21 @@ use mml_serving::{read_connections, read_port};
 use std::alloc::{AllocError, Global};
 use std::num::{NonZeroU8, NonZeroU16};
 
+/// A subcommand: its name, the values that it requires in this order, and the values that may follow.
+pub type Subcommand = (
+    &'static str,
+    &'static [&'static str],
+    &'static [&'static str],
+);
+
+// The subcommands that both programs have.
+const SUBCOMMANDS: &[Subcommand] = &[
+    ("check", &["lab"], &[]),
+    ("script", &["lab", "script"], &["journal"]),
+    ("audit", &["lab", "journal"], &[]),
+    ("serve", &["lab", "port", "connections"], &["journal"]),
+];
+
 /// The task that the command line asks for.
 #[derive(Debug, Drop)]
 pub enum Task<'a> {
@@ -45,11 +60,14 @@ pub struct ServeTask<'a> {
 /// Returns the task that these words ask for; the first word is the program's name. Returns `CommandLine` if the words
 /// don't fit any task, and `Memory` if memory runs out.
 pub fn read_words<'a>(alloc: Global, words: &'a [String]) -> Result<Task<'a>, Fault> {
-    let matches = match_words(command_line(alloc)?, words)?;
-    match matches.subcommand() {
+    let matches = match_words(command_line(alloc, "mml_server", SUBCOMMANDS)?, words)?;
+    let task = match matches.subcommand() {
         None => Ok(Task::BuiltIn),
         Some((name, values)) => task_of(name, values).ok_or(Fault::CommandLine),
-    }
+    };
+    // A call of `drop` keeps the proof short.
+    drop(matches);
+    task
 }
 
 /// Matches the words, of which the first is the program's name, with the description `command`, and returns the values
@@ -57,6 +75,8 @@ pub fn read_words<'a>(alloc: Global, words: &'a [String]) -> Result<Task<'a>, Fa
 /// out. Words that begin with `-` are refused here, since clap would accept `-` and `--`.
 pub fn match_words<'a>(command: Command<'a>, words: &'a [String]) -> Result<ArgMatches<'a>, Fault> {
     if words.iter().skip(1).any(|word| word.starts_with('-')) {
+        // A call of `drop` keeps the proof short.
+        drop(command);
         return Err(Fault::CommandLine);
     }
     match command.try_get_matches_from(words) {
@@ -91,46 +111,53 @@ fn task_of<'a>(name: &str, values: &ArgMatches<'a>) -> Option<Task<'a>> {
     }
 }
 
-/// Returns the description of the program's command line, with its four subcommands. Returns an error if memory runs
-/// out.
-fn command_line<'a>(alloc: Global) -> Result<Command<'a>, AllocError> {
-    command_without_help(alloc, "mml_server")
-        .subcommand(subcommand_of(alloc, "check", &["lab"])?)?
-        .subcommand(with_optional(
-            alloc,
-            subcommand_of(alloc, "script", &["lab", "script"])?,
-            "journal",
-        )?)?
-        .subcommand(subcommand_of(alloc, "audit", &["lab", "journal"])?)?
-        .subcommand(with_optional(
-            alloc,
-            subcommand_of(alloc, "serve", &["lab", "port", "connections"])?,
-            "journal",
-        )?)
-}
-
-/// Returns the description of a command or subcommand with this name, which requires values with these names, in this
-/// order. Returns an error if memory runs out.
-pub fn subcommand_of<'a>(
+/// Returns the description of a program's command line: its `name`, and these subcommands. Returns an error if memory
+/// runs out.
+pub fn command_line<'a>(
     alloc: Global,
     name: &'a str,
-    values: &[&'a str],
+    subcommands: &[Subcommand],
 ) -> Result<Command<'a>, AllocError> {
     let mut command = command_without_help(alloc, name);
-    for value in values {
-        command = command.arg(Arg::new(alloc, value).required(true).action(ArgAction::Set))?;
+    for (name, required, optional) in subcommands {
+        let subcommand = subcommand_of(alloc, name, required, optional);
+        command = with_subcommand(command, subcommand)?;
     }
     Ok(command)
 }
 
-/// Returns the description `command` with one more value, which is named `value`, comes last and may be left out.
-/// Returns an error if memory runs out.
-pub fn with_optional<'a>(
-    alloc: Global,
+/// Returns the description `command` with one more subcommand. If there is an error in place of the subcommand, returns
+/// this error, and also if memory runs out.
+fn with_subcommand<'a>(
     command: Command<'a>,
-    value: &'a str,
+    subcommand: Result<Command<'a>, AllocError>,
 ) -> Result<Command<'a>, AllocError> {
-    command.arg(Arg::new(alloc, value).action(ArgAction::Set))
+    match subcommand {
+        Ok(subcommand) => command.subcommand(subcommand),
+        Err(error) => {
+            // A call of `drop` keeps the proof short.
+            drop(command);
+            Err(error)
+        }
+    }
+}
+
+/// Returns the description of a subcommand with this name. It requires values with the names in `required`, in this
+/// order. After them may come the values in `optional`. Returns an error if memory runs out.
+fn subcommand_of<'a>(
+    alloc: Global,
+    name: &'a str,
+    required: &[&'a str],
+    optional: &[&'a str],
+) -> Result<Command<'a>, AllocError> {
+    let mut command = command_without_help(alloc, name);
+    for value in required {
+        command = command.arg(Arg::new(alloc, value).required(true).action(ArgAction::Set))?;
+    }
+    for value in optional {
+        command = command.arg(Arg::new(alloc, value).action(ArgAction::Set))?;
+    }
+    Ok(command)
 }
 
 /// Returns the description of a command with this name. The description has no flags for help and version, and no

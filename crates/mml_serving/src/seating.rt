@@ -3,10 +3,12 @@
 //! A window is one session's view of the published events and board. A seat is a connection with its window. A window
 //! is fresh if it has seen nothing and was granted nothing. A pledge is the contract of a thread's result, which the
 //! thread that joins it can rely on.
+//!
+//! Values are dropped by calls of `drop` before a function returns, which keeps the proofs short.
 ghost use Rattle.std.specs.Prelude.{◌≡◌, ◌≢◌, ◌<◌, ◌≤◌, ◌+◌, [], ◌∷◌, All, IfOk, OnOk, length, map};
 ghost use Rattle.mml_window.specs.Windows.{window};
 ghost use Rattle.mml_serving.specs.Arriving.{Takes};
-ghost use Rattle.mml_serving.specs.Serving.{Each, IsServed, ServesAll, ends_of};
+ghost use Rattle.mml_serving.specs.Serving.{Each, IsServed, Numbered, ServesAll, ends_of};
 
 use crate::arrivals::{Arrivals, HangUp, LetGo};
 use crate::connection::{Connection, EndedSession};
@@ -117,17 +119,49 @@ impl<'s, Y: ServerTypes + 's, H: House + Send + Sync + 's> Shared<'s, Y, H> {
     {
         let mut arrivals = arrivals;
         let mut windows = windows;
+        match self.start_each(scope, &mut windows, &mut arrivals, connections) {
+            Ok(handles) => {
+                // Connections after the last one are closed at once.
+                drop(arrivals);
+                let served = join_all(self.rt, self.alloc, handles);
+                drop(windows);
+                served
+            }
+            Err(fault) => {
+                drop(windows);
+                drop(arrivals);
+                Err(fault)
+            }
+        }
+    }
+
+    /// Accepts the next `connections` connections of `arrivals`, and starts a thread for each, which serves it through
+    /// a window taken from `windows`. The windows must be fresh, and enough for all connections. Returns the threads'
+    /// handles in the order in which the connections came. Returns `Memory` if memory runs out or no thread can be
+    /// started, and `Accept` if accepting fails for another reason.
+    fn start_each<E, A: Arrivals<Y::Reader, Y::Writer>>(
+        &self,
+        scope: &Scope<'s, E>,
+        windows: &mut Vec<Window<H>>,
+        arrivals: &mut A,
+        connections: u8,
+    ) -> Result<Vec<HandleOf<Y, H>>, SeatingFault>
+        requires fresh { All (λ w. w ≡ window [] []) windows.old.items }
+        requires few { connections ≤ length windows.old.items }
+        ensures count { IfOk result (λ handles. length handles.items ≡ connections) }
+        ensures numbered { IfOk result (λ handles. Numbered 1 (map (λ h. h.promise.0.value) handles.items)) }
+        ensures came { IfOk result (λ handles. Takes (A.to_come arrivals.old) (A.to_come arrivals.new)
+            (map ends_of (map (λ h. h.promise.0.value) handles.items))) }
+    {
         let Ok(mut handles) = Vec::with_capacity(self.alloc, usize::from(connections)) else {
             return Err(SeatingFault::Memory);
         };
         for index in 0..connections {
-            let seat = next_seat(&mut arrivals, &mut windows, index + 1)?;
+            let seat = next_seat(arrivals, windows, index + 1)?;
             let handle = self.serve_apart(scope, seat)?;
             handles.push_reserved(handle);
         }
-        // Connections after the last one are closed at once.
-        drop(arrivals);
-        join_all(self.rt, self.alloc, handles)
+        Ok(handles)
     }
 
     /// Starts a thread in `scope` that serves the connection of a seat, whose window must be fresh. Returns the
@@ -156,7 +190,10 @@ impl<'s, Y: ServerTypes + 's, H: House + Send + Sync + 's> Shared<'s, Y, H> {
             { serve_seated::<Y, H>(rt, alloc, desk, seat, gate) },
         ) {
             Ok(handle) => Ok(handle),
-            Err(_) => Err(SeatingFault::Memory),
+            Err(refused) => {
+                drop(refused.value);
+                Err(SeatingFault::Memory)
+            }
         }
     }
 }
@@ -282,9 +319,12 @@ fn join_all<Rt: Threads, H: House, R: Read + Drop, W: Write + Drop>(
         (map (λ h. h.promise.0.value) handles.items) parts.1.items parts.0.items) }
 {
     let Ok(mut windows) = Vec::with_capacity(alloc, handles.len()) else {
+        drop(handles);
         return Err(SeatingFault::Memory);
     };
     let Ok(mut sessions) = Vec::with_capacity(alloc, handles.len()) else {
+        drop(windows);
+        drop(handles);
         return Err(SeatingFault::Memory);
     };
     for handle in handles {

@@ -5,6 +5,8 @@
 //! A window is one session's view of the published events and board. The type `H` is the name of a house, and only
 //! contracts use it. A sink is the destination of the journal's bytes. The place of an event is its number in the list
 //! of events, from 1. The log of a house is its result, with its events, board and sink.
+//!
+//! Values are dropped by calls of `drop` before a function returns, which keeps the proofs short.
 ghost use Rattle.std.specs.Prelude.{◌≡◌, ◌<◌, ◌≤◌, ◌+◌, ◌-◌, ◌^◌, ◌++◌, Err, None, true, false, length, IfOk, IfErr, OnOk};
 ghost use Rattle.std.specs.List.{list_all};
 ghost use Rattle.std.specs.Io.KnownBytes.{Appends};
@@ -82,7 +84,10 @@ pub fn serve_on<Rt: Threads + Wait + Sync, S: Sink + Send + Drop, G: Gate + Sync
         (W.contents writer.old) (W.contents writer.new)) }
 {
     match serve_house_on(rt, alloc, lab, listener, connections, sink, gate, writer) {
-        Ok(_house) => Ok(()),
+        Ok(house) => {
+            drop(house);
+            Ok(())
+        }
         Err(fault) => Err(fault),
     }
 }
@@ -133,6 +138,7 @@ pub fn serve_house_on<Rt: Threads + Wait + Sync, S: Sink + Send + Drop, G: Gate 
     if all_had_memory(&house.sessions) {
         Ok(house)
     } else {
+        drop(house);
         Err(ServeFault::Memory)
     }
 }
@@ -166,8 +172,14 @@ pub fn serve_arrivals<Y: ServerTypes, A: Arrivals<Y::Reader, Y::Writer> + Drop, 
 {
     let blank = match open_house(rt, alloc, lab, sink) {
         Ok(blank) => blank,
-        Err(HouseFault::Memory) => return Err(ServeFault::Memory),
-        Err(HouseFault::Place) => return Err(ServeFault::Place),
+        Err(HouseFault::Memory) => {
+            drop(arrivals);
+            return Err(ServeFault::Memory);
+        }
+        Err(HouseFault::Place) => {
+            drop(arrivals);
+            return Err(ServeFault::Place);
+        }
     };
     let served = serve_in_house::<Y, Brand, A>(rt, alloc, blank, arrivals, connections, gate);
     let house = match served {
@@ -176,7 +188,10 @@ pub fn serve_arrivals<Y: ServerTypes, A: Arrivals<Y::Reader, Y::Writer> + Drop, 
     };
     match write_last(alloc, &house.log, writer) {
         Ok(()) => Ok(house),
-        Err(fault) => Err(fault),
+        Err(fault) => {
+            drop(house);
+            Err(fault)
+        }
     }
 }
 
@@ -199,10 +214,14 @@ fn serve_in_house<Y: ServerTypes, H: House + Send + Sync, A: Arrivals<Y::Reader,
         (EndsEarly H.lab Y.Sink.contents Y.Reader.remaining Y.Writer.contents (A.to_come arrivals) connections) }
 {
     let Ok((desk, mut windows)) = blank.start::<H>(alloc) else {
+        drop(arrivals);
         return Err(ServeFault::Memory);
     };
     let Ok(unused) = windows.split_off(usize::from(connections)) else {
-        return Err(end_for(ServeFault::Memory, rt, alloc, desk));
+        let fault = end_for(ServeFault::Memory, rt, alloc, desk);
+        drop(windows);
+        drop(arrivals);
+        return Err(fault);
     };
     let setting = Setting {
         rt,
@@ -212,10 +231,19 @@ fn serve_in_house<Y: ServerTypes, H: House + Send + Sync, A: Arrivals<Y::Reader,
     match serve_all::<Y, H, A>(&setting, windows, arrivals, connections, gate) {
         Ok((windows, sessions)) => match end_house(rt, alloc, desk, windows, unused) {
             Ok(log) => Ok(ServedHouse { log, sessions }),
-            Err(fault) => Err(fault),
+            Err(fault) => {
+                drop(sessions);
+                Err(fault)
+            }
         },
-        Err(SeatingFault::Memory) => Err(end_for(ServeFault::Memory, rt, alloc, desk)),
-        Err(SeatingFault::Accept) => Err(end_for(ServeFault::Accept, rt, alloc, desk)),
+        Err(SeatingFault::Memory) => {
+            drop(unused);
+            Err(end_for(ServeFault::Memory, rt, alloc, desk))
+        }
+        Err(SeatingFault::Accept) => {
+            drop(unused);
+            Err(end_for(ServeFault::Accept, rt, alloc, desk))
+        }
     }
 }
 
@@ -249,7 +277,10 @@ fn end_house<Rt: Wait, S: Sink + Drop, H: House>(
 {
     let mut windows = windows;
     let mut unused = unused;
-    if windows.append(&mut unused).is_err() {
+    let is_short = windows.append(&mut unused).is_err();
+    drop(unused);
+    if is_short {
+        drop(windows);
         return Err(end_for(ServeFault::Memory, rt, alloc, desk));
     }
     match desk.finish(rt, windows) {

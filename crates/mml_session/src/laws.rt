@@ -28,7 +28,7 @@ pub fn places_are_those_told()
 {}
 
 /// A window counts the replies that refuse an act because the journal is halted (`journal`), and no other replies. For
-/// each of them, it adds how many more events the lab allows after those that the window has then seen.
+/// each of them, `spare` grows by how many more events the lab allows after those that the window has then seen.
 pub fn refusals_for_the_journal_are_counted()
     ensures turn { (lab : LabValue) (st after : Standing) (t : LineTurn lab st after) →
         after.window.halts ≡ st.window.halts + halts_in t.reply }

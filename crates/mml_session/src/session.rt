@@ -131,6 +131,8 @@ pub fn serve_observed<Y: SessionTypes, H: House, O: Observer>(
                 let ending = let_out(&mut session, ending, before, writer, observer);
                 let seen = window.seen_count();
                 observer.left(connection, &ending, seen);
+                // A call of `drop` keeps the proof short.
+                drop(session);
                 return ending;
             }
         }
@@ -350,30 +352,38 @@ fn serve_line<Y: SessionTypes, H: House, O: Observer>(
 {
     let mut reply = Reply::Bye;
     let line = session.lines.bytes();
-    answer_into(
+    match answer_into(
         setting,
         window,
         &mut session.known,
         line,
         &mut session.scratch,
         &mut reply,
-    )?;
-    let judged = Judged {
-        number: session.connection,
-        seen: window.seen_count(),
-        line,
-        is_next_unknown: session.lines.needs_read(),
-    };
-    Ok(tell(
-        setting.alloc,
-        window,
-        judged,
-        reply,
-        &mut session.held,
-        &mut session.reply,
-        writer,
-        observer,
-    ))
+    ) {
+        Ok(()) => {
+            let judged = Judged {
+                number: session.connection,
+                seen: window.seen_count(),
+                line,
+                is_next_unknown: session.lines.needs_read(),
+            };
+            Ok(tell(
+                setting.alloc,
+                window,
+                judged,
+                reply,
+                &mut session.held,
+                &mut session.reply,
+                writer,
+                observer,
+            ))
+        }
+        Err(closed) => {
+            // A call of `drop` keeps the proof short.
+            drop(reply);
+            Err(closed)
+        }
+    }
 }
 
 // A line that was answered, and what is needed to record and send its reply.
@@ -418,11 +428,16 @@ fn tell<H: House, W: Write, O: Observer>(
     if append_reply(window.ids(), window.roster(), &reply, &mut held.bytes) {
         let (_, line) = held.bytes.as_slice().split_at(start);
         observer.answered(judged.number, judged.seen, judged.line, &reply, line);
-        return send_held(&reply, held, judged.is_next_unknown, writer);
+        let sent = send_held(&reply, held, judged.is_next_unknown, writer);
+        // A call of `drop` keeps the proof short.
+        drop(reply);
+        return sent;
     }
     let told = tell_reply(alloc, window.ids(), window.roster(), reply, out);
     observer.answered(judged.number, judged.seen, judged.line, &told, out);
-    send(&told, out, held, judged.is_next_unknown, writer)
+    let sent = send(&told, out, held, judged.is_next_unknown, writer);
+    drop(told);
+    sent
 }
 
 /// Appends the line of a reply to the buffered ones. Writes all if `at_once` is set, after a `bye`, or if the buffer

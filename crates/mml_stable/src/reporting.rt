@@ -49,12 +49,14 @@ fn report_lists(alloc: Global, board: &Board) -> Result<Report, Memory>
     let pairs = pairs(alloc, board)?;
     let (free, free_set) = free_nodes(alloc, board)?;
     let (privileged, stable) = privileged_nodes(alloc, board, &kinds)?;
+    // A `?` inside the literal below would make the proof longer.
+    let open_links = open_links(alloc, board, &kinds, free_set)?;
     Ok(Report {
         at: board.number(),
         pairs: Items::of(pairs),
         free: Items::of(free),
         privileged: Items::of(privileged),
-        open_links: Items::of(open_links(alloc, board, &kinds, free_set)?),
+        open_links: Items::of(open_links),
         stable,
     })
 }

@@ -32,9 +32,9 @@ ghost use Rattle.mml_tally.specs.StudentDenials.{named_of, AreNamed, AreSums};
 ghost use Rattle.mml_tally.specs.AskMeaning.{asks_of_others, is_denied, total_denied, AreAsksOf, asked_under};
 ghost use Rattle.mml_tally.specs.Meaning.{IsNextClose, total, is_released, is_dropped, is_left, asked_as};
 
-/// A move that is granted at node i is applied by the close at place p exactly if no event between the two ends it.
-/// These events are a release of i, and each close, fault, link and cut. The law is about the events after the grant,
-/// of which the first has place q.
+/// A move that is granted at node i is applied at place p exactly if the event at place p is a close, and no event after
+/// the grant and before place p ends the move. A move at node i is ended by a release of i, and by any close, fault,
+/// link or cut. The law is about the events after the grant, of which the first has place q.
 pub fn moves_are_applied_by_the_next_close()
     ensures { (i q p : ℕ) (es : List Event) →
         (fate_of i q es ≡ Fate.Applied p) ↔ IsNextClose i q p es }

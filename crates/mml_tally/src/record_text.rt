@@ -12,7 +12,7 @@ use crate::lacking::put_recorded;
 use crate::owners::{is_shared, owners_of};
 use crate::refusals::put_refused;
 use crate::student_denials::put_named;
-use crate::text::{put_ends, put_granted, put_numbers, put_owner};
+use crate::text::{put_ends, put_move_counts, put_numbers, put_owner};
 use mml_board::{Board, Event};
 use mml_ids::{Memory, NodeSet, Piece, Rank, put};
 use mml_lab::{Lab, Roster, Student, Who};
@@ -82,7 +82,7 @@ fn put_recorded_run(
         ++ recorded_run_text lab.now board.now events.now findings.now asks.now) }
 {
     let all = moves_of(alloc, events)?;
-    put_granted(out, alloc, lab, &all)?;
+    put_move_counts(out, alloc, lab, &all)?;
     put_record(out, alloc, lab, findings, asks)?;
     put_ends(out, board, events, &all)
 }

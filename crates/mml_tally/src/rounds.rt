@@ -18,8 +18,8 @@ use mml_lab::Lab;
 use mml_rules::Scene;
 use std::alloc::Global;
 
-/// Appends the line `rounds`: how many rounds of a lab's run ended, as `rounds_since` counts them. The events must be
-/// legal. Returns `Memory` if memory runs out.
+/// Appends the line `rounds`: how many rounds of a lab's run ended since the last fault, link or cut, as `rounds_since`
+/// counts them. The events must be legal. Returns `Memory` if memory runs out.
 pub fn put_rounds(
     out: &mut Vec<u8>,
     alloc: Global,

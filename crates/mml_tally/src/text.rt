@@ -8,7 +8,9 @@ ghost use Rattle.std.specs.Prelude.{◌≡◌, ◌<◌, ◌==◌, [], ◌∷◌,
 ghost use Rattle.mml_lab.specs.declared.who.Who.TheVariants.{Student as AStudent};
 ghost use Rattle.mml_lab.specs.Rosters.{name_of};
 ghost use Rattle.mml_board.specs.World.{configuration, privileged_count};
+ghost use Rattle.mml_tally.specs.Marks.{moves_at};
 ghost use Rattle.mml_tally.specs.Moves.{moves};
+ghost use Rattle.mml_tally.specs.Owners.{owners_in_order};
 ghost use Rattle.mml_tally.specs.Texts.{numbers_text, place_text, rules_text, marks_text, student_line, owner_text, owners_text, node_line, bounds_line, stable_text, run_line, students_text, nodes_text, ends_text, tally_text};
 
 use crate::bounds::{Bounds, bounds_of};
@@ -35,13 +37,14 @@ pub fn put_tally(
         (out.new.items ≡ out.old.items ++ tally_text lab.now board.now events.now) }
 {
     let all = moves_of(alloc, events)?;
-    put_granted(out, alloc, lab, &all)?;
+    put_move_counts(out, alloc, lab, &all)?;
     put_ends(out, board, events, &all)
 }
 
-/// Appends a line for each student, and a line for each node that several students own. `all` has the moves that the
-/// run's events grant. Returns `Memory` if memory runs out.
-pub(crate) fn put_granted(
+/// Appends the first part of the tally: a line for each student with the counts of the student's moves, and a line for
+/// each node that several students own, with the counts of each owner's moves there. `all` has the moves that the run's
+/// events grant. Returns `Memory` if memory runs out.
+pub(crate) fn put_move_counts(
     out: &mut Vec<u8>,
     alloc: Global,
     lab: &Lab,
@@ -171,12 +174,28 @@ fn put_node(
     requires { node < length lab.now.ids }
     ensures { OnOk result (out.new.items ≡ out.old.items ++ node_line lab.now all.now node) }
 {
-    let owners = owners_of(alloc, lab.roster(), node)?;
-    let there = moves_at(alloc, all, node)?;
     put(out, &[Piece::Text("node")])?;
     put_numbers(out, &[lab.ids().id_of(node)])?;
-    put_owners(out, alloc, lab.roster(), &there, &owners)?;
+    put_owners_at(out, alloc, lab, all, node)?;
     put(out, &[Piece::Text("\n")])
+}
+
+/// Appends the names of the owners of a node, which must exist, as `put_owners` does. `all` has the moves that the
+/// run's events grant. Returns `Memory` if memory runs out.
+fn put_owners_at(
+    out: &mut Vec<u8>,
+    alloc: Global,
+    lab: &Lab,
+    all: &[Move],
+    node: Rank,
+) -> Result<(), Memory>
+    requires { node < length lab.now.ids }
+    ensures { OnOk result (out.new.items ≡ out.old.items
+        ++ owners_text lab.now.roster (moves_at node all.now) (owners_in_order lab.now.roster node)) }
+{
+    let owners = owners_of(alloc, lab.roster(), node)?;
+    let there = moves_at(alloc, all, node)?;
+    put_owners(out, alloc, lab.roster(), &there, &owners)
 }
 
 /// Appends the names of a node's owners, each with how many moves of each rule the owner was granted there. The owners

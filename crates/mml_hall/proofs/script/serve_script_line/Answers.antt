@@ -16,8 +16,8 @@ returns-then-append-clause-serves g c =
 pub returns-clause-serves : goal.returns-clause-serves
 returns-clause-serves g c =
     let lab = c.args.hall.now.lab in
-    let tells = rw (c.lab.ensures.lab, c.answer_into.ensures.lab, c.if-append.ensures.lines) at c.write_by_buffer.ensures.tells in
-    serves_line c.write_by_buffer.result lab c.args.hall.now.state c.answer_into.new.self.state
-    (line_of c.args.line) tells.0 c.args.line.front.now (reply_line lab.ids lab.roster tells.0) _ c.write_by_buffer.new.outgoing _ _ c.requires.script
+    let tells = rw (c.lab.ensures.lab, c.answer_into.ensures.lab, c.if-append.ensures.lines) at c.write_by_buffer-told.ensures.tells in
+    serves_line c.write_by_buffer-told.result lab c.args.hall.now.state c.answer_into.new.self.state
+    (line_of c.args.line) tells.0 c.args.line.front.now (reply_line lab.ids lab.roster tells.0) _ c.write_by_buffer-told.new.outgoing _ _ c.requires.script
     (told_turn lab c.args.hall.now.state c.args.line.connection c.args.line.request.now _ tells.0 c.answer_into.ensures.turn tells.1)
     c.requires.front refl tells.2 tells.3

@@ -4,8 +4,8 @@ use Rattle.mml_serving.specs.Endings.{WentAstray}
 use Rattle.mml_serving.proofs.EndingsLemmas.{went_astray}
 use Rattle.mml_serving.proofs.serving.end_house.Goals as goal
 
-pub returns-clause-without : goal.returns-clause-without
-returns-clause-without g c =
+pub returns-in-Err-clause-without : goal.returns-in-Err-clause-without
+returns-in-Err-clause-without g c =
     let all : c.append.new.self.items ≡ c.args.windows.items ++ c.args.unused.items = search rules in
     let left = c.in-Err.ensures.left in
     subst (λ (ws : List WindowValue). WentAstray g.H.House.lab g.S.Sink.contents ws) all

@@ -1,4 +1,4 @@
-use Rattle.std.proofs.{lemmas.Bool.Decides.nat_tests, Common.◌≡◌, Common.[], Common.List, Common.arith, Common.ap, Common.length, Common.length-drop, lemmas.List.Elements.All-take}
+use Rattle.std.proofs.{Common.◌≡◌, Common.[], Common.List, Common.arith, Common.ap, Common.length, Common.length-drop, lemmas.List.Elements.All-take}
 use Rattle.mml_window.specs.Windows.{WindowValue, window}
 use Rattle.mml_serving.specs.Serving.{IsServed}
 use Rattle.mml_serving.proofs.{EndingsLemmas.early_so, ServingLemmas.each_long, ServingLemmas.serves_windows}
@@ -26,5 +26,9 @@ returns-in-Ok-end_house-clause-served g c = record {
   kept = c.in-Ok-end_house.ensures.log;
 }
 
-pub returns-in-Ok-serve_all-clause-early : goal.returns-in-Ok-serve_all-clause-early
-returns-in-Ok-serve_all-clause-early g c = grind (arith, nat_tests, early_so, serves_windows) steps 400000
+pub returns-in-Err-clause-early : goal.returns-in-Err-clause-early
+returns-in-Err-clause-early g c =
+    early_so g.H.House.lab g.Y.Sink.Sink.contents g.Y.Reader.Read.remaining g.Y.Writer.Write.contents (g.A.Arrivals.to_come c.args.arrivals) c.args.connections _ _
+    (serves_windows _ _ _ _ _ _ _ _ _ _ c.in-Ok-serve_all.ensures c.from.ensures c.in-Ok-split_off.ensures.tail c.in-Ok.ensures.count
+    c.requires.few c.in-Ok.ensures.windows)
+    c.in-Err.fault c.in-Err.ensures.without

@@ -9,6 +9,6 @@ pub returns-clause-tells : goal.returns-clause-tells
 returns-clause-tells g c = (
   c.tell_reply-told.result,
   c.tell_reply-told.ensures.told,
-  rw (c.if-append_reply.ensures.line, c.deref-2.ensures.value, c.tell_reply-told.ensures.line, c.ids-2.ensures.ids, c.roster-2.ensures.roster) at c.send.ensures.sends,
+  rw (c.if-append_reply.ensures.line, c.deref-2.ensures.value, c.tell_reply-told.ensures.line, c.ids-2.ensures.ids, c.roster-2.ensures.roster) at c.send-sent.ensures.sends,
   rw (c.deref.ensures.value, c.tell_reply-told.ensures.line, c.ids-2.ensures.ids, c.roster-2.ensures.roster) at c.answered-2.ensures,
 )
