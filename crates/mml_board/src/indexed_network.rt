@@ -113,7 +113,8 @@ impl IndexedNetwork {
         })
     }
 
-    /// Returns the candidates of a node, which must exist: the nodes that a seduction of it may choose.
+    /// Returns the candidates of a node, which must exist: the neighbours of which it seduces the greatest if Seduction
+    /// is enabled at it.
     fn candidates(&self, node: Rank) -> NodeSet
         requires { node < length self.now.registers }
         ensures { (j : ℕ) → set.contains result j ≡

@@ -206,8 +206,9 @@ fn story_of_moves() -> [Part; 5] {
     ]
 }
 
-/// Returns the story that follows `story_of_moves` on the same board. Its events are a chosen move, a fault that drops
-/// it, a cut, a link, and an illegal cut, which must change nothing.
+/// Returns the story that follows `story_of_moves` on the same board: events, each with the text of the board that must
+/// be there right after it. The events are a chosen move, a fault that drops it, a cut, a link, and an illegal cut,
+/// which must change nothing.
 fn story_of_changes() -> [Part; 5] {
     let [a, b, c] = [Rank::at(0), Rank::at(1), Rank::at(2)];
     let fault = Event::Fault {

@@ -100,20 +100,21 @@ fn wanted(alloc: Global, line: &str, is_line: bool, last: &str) -> Result<String
     }
 }
 
-/// Returns whether the digits of a row, and the text that follows them, give the row's answers if they are read with
-/// the row's limit on a line's length.
-fn is_length_told(alloc: Global, row: &Length) -> Result<bool, Fail> {
+/// Returns whether `Lines` reads the input of a row as the row says. The input is a line of `len` digits, followed by
+/// `end`, and is read with this limit on a line's length. `Lines` must return the line if `is_line` is set, and then
+/// the answer `last`.
+fn is_row_right(alloc: Global, row: &Length) -> Result<bool, Fail> {
     let (limit, len, end, is_line, last) = row;
     let line = digits(alloc, *len)?;
     let wanted = wanted(alloc, line.as_str(), *is_line, last)?;
     are_steps(alloc, *limit, line.as_str(), end, wanted.as_str())
 }
 
-/// Checks each row of `LENGTHS` with `is_length_told`. Returns the index of the first row that is wrong, or `None` if
+/// Checks each row of `LENGTHS` with `is_row_right`. Returns the index of the first row that is wrong, or `None` if
 /// all are right.
 fn first_other_length(alloc: Global) -> Result<Option<usize>, Fail> {
     for (number, row) in LENGTHS.iter().enumerate() {
-        if !is_length_told(alloc, row)? {
+        if !is_row_right(alloc, row)? {
             return Ok(Some(number));
         }
     }

@@ -1,5 +1,5 @@
-//! Two labs that agree in everything that a journal names. Such labs are called the same here. Each law is the contract
-//! of a function that does nothing.
+//! Two labs that have the same nodes, participants, owners, links and registers. Such labs are called the same here.
+//! Each law is the contract of a function that does nothing.
 //!
 //! A world is a network with its registers, its chosen moves, the number of its configuration, and the number of events
 //! so far. A list of events is legal if each event is allowed in the world after the earlier ones. The audit of a

@@ -96,7 +96,7 @@ fn results_of_a_slow_put<R: Threads + Wait + Sync>(
     };
     let are_so = are_answered(&house, &[ANA_GRANTED, BEN, CYD])
         && house.log.sink.bytes.as_slice() == JOURNAL.as_bytes();
-    Ok((are_so, steps.were_led()))
+    Ok((are_so, steps.were_in_turn()))
 }
 
 /// Checks three sessions, of which one makes a slow put that holds the lock. Meanwhile a view of another session

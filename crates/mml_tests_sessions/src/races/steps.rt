@@ -31,7 +31,7 @@ pub struct Steps<'a> {
     /// How often a wait was given up, since it took too long.
     given_up: AtomicU64,
     /// How often a connection came to a line when it should come to a reply, or the other way round.
-    misled: AtomicU64,
+    out_of_turn: AtomicU64,
 }
 
 impl<'a> Steps<'a> {
@@ -46,7 +46,7 @@ impl<'a> Steps<'a> {
             holds,
             steps,
             given_up: AtomicU64::new(0),
-            misled: AtomicU64::new(0),
+            out_of_turn: AtomicU64::new(0),
         })
     }
 
@@ -95,15 +95,15 @@ impl<'a> Steps<'a> {
         }
     }
 
-    /// Returns whether each connection came to lines and replies in turn, and no wait was given up.
-    pub fn were_led(&self) -> bool {
-        self.given_up.load(Ordering::SeqCst) == 0 && self.misled.load(Ordering::SeqCst) == 0
+    /// Returns whether each connection came to a line and a reply alternately, beginning with a line, and no wait of
+    /// one connection for another was given up.
+    pub fn were_in_turn(&self) -> bool {
+        self.given_up.load(Ordering::SeqCst) == 0 && self.out_of_turn.load(Ordering::SeqCst) == 0
     }
 
-    /// Returns whether each connection came to lines and replies in turn, no wait was given up, and each connection
-    /// came to exactly `steps` steps.
+    /// Returns whether `were_in_turn` returns `true`, and each connection came to exactly `steps` steps.
     pub fn were_kept(&self, steps: u64) -> bool {
-        self.were_led()
+        self.were_in_turn()
             && self
                 .steps
                 .iter()
@@ -111,7 +111,7 @@ impl<'a> Steps<'a> {
     }
 
     /// Counts the next step of a connection, and makes the connection wait there as `holds` says. The even steps, from
-    /// 0, are lines, and the odd ones replies. Counts one more in `misled` if `point` is of the other kind. For a
+    /// 0, are lines, and the odd ones replies. Counts one more in `out_of_turn` if `point` is of the other kind. For a
     /// connection that doesn't exist, no step is counted, and the step is taken as `u64::MAX`.
     pub fn come(&self, connection: u8, point: Point) {
         let step = match self.count_of(connection) {
@@ -120,7 +120,7 @@ impl<'a> Steps<'a> {
         };
         let is_line = matches!(point, Point::Line);
         if is_line != (step % 2 == 0) {
-            self.misled.fetch_add(1, Ordering::SeqCst);
+            self.out_of_turn.fetch_add(1, Ordering::SeqCst);
         }
         self.wait_at(connection, step);
     }

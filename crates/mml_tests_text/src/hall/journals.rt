@@ -65,8 +65,9 @@ fn hall_of(alloc: Global, script: &str, puts: usize) -> Result<Box<Hall<Drip>>, 
     Ok(Box::new(alloc, hall)?)
 }
 
-/// Answers a script with a sink that fails after `puts` bytes. Returns whether `has_dripped` and `is_audited` are
-/// `true` for the hall after the script.
+/// Answers a script with a sink that stores one byte in each put, and fails after `puts` of them. Returns whether the
+/// hall has failed as it should: the sink has the first `puts` bytes of the journal, the hall has the events of the
+/// whole lines among them, and an audit passes these bytes exactly if their last line is whole.
 fn fails_rightly_after(alloc: Global, script: &str, puts: usize) -> Result<bool, Fail> {
     let hall = hall_of(alloc, script, puts)?;
     Ok(has_dripped(&hall, puts) && is_audited(alloc, &hall))
