@@ -14,7 +14,7 @@ from model.words import ended
 
 
 def main(words: list[str]) -> int:
-    """Runs the command that the arguments name, prints its output, and returns the exit status."""
+    """Runs the command that the arguments name, prints its output, and returns the exit status. Also prints the usage if they name none."""
     if words == ["--all"]:
         return write_all()
     found = ended(words)

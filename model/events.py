@@ -6,7 +6,7 @@ from model.world import World
 
 
 def reply_values(world: World, asked: Request) -> dict[str, Any]:
-    """Returns the values that the reply to a granted request has beside its word `ok`. `world` is the one before the event."""
+    """Returns the values that the reply to a granted request, which makes an event, has beside its word `ok`. `world` is the one before the event."""
     place, number = world.place + 1, world.number
     if asked.do == "move":
         return {"at": number, "place": place, "node": asked.node, "rule": asked.move.rule}

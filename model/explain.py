@@ -46,7 +46,7 @@ def no_seduction(world: World, i: int) -> str:
     higher = [j for j in world.near(i) if j > i]
     if not higher:
         return f"no neighbour of node {i} has a greater number"
-    j = higher[-1]
+    j = higher[-1]  # None of them can be seduced. The text says why for the greatest one.
     return (f"no neighbour of node {i} with a greater number has p null and m false: "
             + (f"p of node {j} is {world.p[j]}" if world.p[j] is not None else f"m of node {j} is true"))
 
@@ -75,7 +75,7 @@ def failing(world: World, i: int, move: Move) -> str:
 
 
 def right_line(world: World, i: int) -> str:
-    """Returns a text with the line that a correct bot would send for node i now. If i may marry several nodes, the text names all of them."""
+    """Returns as a text which line a correct bot would send for node i now, or why it would send none. If i may marry several nodes, names all of them."""
     if i in world.chosen:
         return f"a correct bot would send nothing for node {i}, because its granted move waits for the end of the step"
     moves = world.moves(i)
@@ -88,8 +88,8 @@ def right_line(world: World, i: int) -> str:
 
 
 def explained(world: World, asked: Request) -> str:
-    """Returns the explanation of a requested move, before the world has answered it, or an empty text if the request isn't a move of an existing node.
-    It begins with the part of the guard that fails, if the request names the present configuration and a node without a chosen move."""
+    """Returns the explanation of a requested move, in the world before its answer. Returns an empty text if the request isn't a move of an existing node.
+    Begins with the part of the guard that fails, if the request names the present configuration and a node without a chosen move. Ends with `right_line`."""
     if asked.do != "move" or asked.node not in world.links:
         return ""
     parts = [failing(world, asked.node, asked.move)] if asked.at == world.number and asked.node not in world.chosen else []
@@ -97,7 +97,7 @@ def explained(world: World, asked: Request) -> str:
 
 
 def explanations(lab: Lab, script: bytes) -> list[str]:
-    """Returns the lines to print: one for each denied move of a script for a lab, and one for each node that could move at the script's end."""
+    """Returns the lines to print: one for each denied move of a script up to its first wrong line, and one for each node that could move then."""
     run, found = Run(lab), []
     for number, line in enumerate(script.splitlines(), 1):
         read = script_line(lab, line)

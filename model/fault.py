@@ -16,7 +16,7 @@ def read_file(file: Path, what: str, most: int) -> bytes:
     try:
         with file.open("rb") as it:
             content = it.read(most + 1)
-    except (OSError, ValueError):
+    except (OSError, ValueError):  # A path with a null character is a `ValueError`.
         raise Fault(f"read fault: {what}", 4) from None
     if len(content) > most:
         raise Fault(f"read fault: {what}", 4)

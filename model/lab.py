@@ -83,7 +83,7 @@ def document(content: bytes) -> dict[str, Any]:
 
 
 def of_kind(value: Any, key: str, kind: type) -> Any:
-    """Returns the value if its type is exactly `kind`; so a truth value isn't an integer. Otherwise raises `Fault`, which calls the value `key`."""
+    """Returns the value if its type is exactly `kind`; so a truth value isn't an integer. Raises `Fault`, which calls it `key`, for MISSING or another type."""
     if value is MISSING:
         raise fault(f"{key} is missing")
     if type(value) is not kind:

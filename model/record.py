@@ -82,7 +82,7 @@ class Seat:
         self.world = lab.opening()  # after the events that had been seen
         self.known: str | None = None  # who is known in the session
         self.stage = FRESH
-        # The numbers of events at the lines refused with `journal` since the last mark `!`, and at those that more events followed.
+        # The numbers of events before the lines refused with `journal`: of those since the last mark `!`, and of those after which more events came.
         self.halts, self.outlived = list[int](), list[int]()
 
     def entry(self, text: bytes, at: int) -> Entry | str:
@@ -179,7 +179,7 @@ class Seat:
         is_reply = not found.is_view and entry.reply == found.reply.encode("ascii")
         if is_reply and event and event != self.events[place : place + 1]:
             return f"not the journal's event at place {place + 1}"
-        if not is_reply or len(entry.line) > LONGEST_REQUEST:
+        if not is_reply or len(entry.line) > LONGEST_REQUEST:  # A longer line is never answered as a request.
             return f"not the reply of the rules at place {place}"
         if found.event is not None:
             if self.halts:

@@ -1,5 +1,5 @@
-"""What views show of the world, which is the network with its registers and chosen moves: the registers of a node, a
-look at its neighbours, and the report. Each view is returned as the values of its reply."""
+"""What views show of the world, the network with its registers and chosen moves: a node's registers, a look at its neighbours, and the report. A node is
+*privileged* if a rule is enabled there, and *free* if it is in no pair. An *open* link joins two free nodes. Each view is the values of its reply."""
 from typing import Any
 
 from model.world import World
@@ -11,7 +11,7 @@ def registers(world: World, i: int) -> dict[str, Any]:
 
 
 def look(world: World, i: int) -> dict[str, Any]:
-    """Returns node i with its registers and its neighbours, the rule of its chosen move, and its enabled rule."""
+    """Returns node i with its registers and its neighbours, the rule of its chosen move, and its enabled rule. A rule is None if there is none."""
     return {
         **registers(world, i),
         "near": [registers(world, j) for j in world.near(i)],
@@ -24,7 +24,7 @@ def witness(world: World, rules: dict[int, str | None], a: int, b: int) -> tuple
     """Returns the witness of the open link with the ends a and b, a the lower one, and its enabled rule. `rules` has the enabled rule of each node.
 
     A walk follows the pointers from a, and then one from b, to the first node that is privileged or points at none. The
-    walk's end is the witness if a rule other than seduction is enabled there. If neither end is, a is it, by seduction."""
+    walk's end is the witness if a rule other than seduction is enabled there. If neither end is it, the witness is a, by seduction."""
     for i in (a, b):
         j = world.p[i]
         # This loop ends: a free node that isn't privileged points at none, or at one with a greater number that is free or privileged.

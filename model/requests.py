@@ -49,7 +49,7 @@ def finite(text: str) -> float:
 def integer(text: str) -> float | int:
     """Returns the value of an integer, as an `int` from 0 to 2^64 - 1, and otherwise as a `float`. Raises `Malformed` beyond the greatest double."""
     value = finite(text)
-    return int(text) if not text.startswith("-") and int(text) <= GREATEST else value
+    return int(text) if not text.startswith("-") and int(text) <= GREATEST else value  # No key of a request may have a float.
 
 
 def check_letters(value: Any) -> None:

@@ -77,7 +77,7 @@ class Run:
 
     def answer(self, connection: int, line: bytes) -> str:
         """Returns the reply to a line of a connection, and applies the line's event. Line and reply have no newlines."""
-        found = answer(self.lab, self.world, self.names.pop(connection, None), line)
+        found = answer(self.lab, self.world, self.names.pop(connection, None), line)  # The name is put back if it stays.
         if found.known is not None:
             self.names[connection] = found.known
             if found.event is not None:

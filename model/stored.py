@@ -17,7 +17,8 @@ def lab_of(script: Path) -> Path:
 
 
 def renew(stored: Path, content: bytes) -> int:
-    """Returns 0 if a stored output is `content`, the model's. Otherwise writes FILE.new, prints the difference, and returns 1."""
+    """Compares the file `stored` with the model's present output `content`. Returns 0 if they are equal. Otherwise writes the
+    output to a new file, whose name ends with `.new`, prints the difference, and returns 1. Never changes `stored` itself."""
     new = stored.with_name(f"{stored.name}.new")
     new.unlink(missing_ok=True)
     old = stored.read_bytes() if stored.exists() else b""
@@ -30,16 +31,17 @@ def renew(stored: Path, content: bytes) -> int:
 
 
 def write_all() -> int:
-    """Plays all scripts, and compares their outputs with the stored ones (`renew`). Returns the exit status: 1 if one differs."""
+    """Plays all scripts, and compares their outputs with the stored ones (`renew`). Returns the exit status: 1 if an output differs or a script is wrong."""
     scripts = [script for folder in FOLDERS for script in sorted((TOP / folder).glob("*.script"))]
-    others = 0
+    others = wrong = 0
     for script in scripts:
         run, bad_line = play(read_lab(lab_of(script).read_bytes()), script.read_bytes())
         if bad_line is not None:
+            wrong += 1
             print(f"{script.relative_to(TOP)}: line {bad_line} isn't a line of a script")
         others += renew(script.with_suffix(".out"), run.printed())
         # A journal is stored for some scripts only.
         if script.with_suffix(".journal").exists():
             others += renew(script.with_suffix(".journal"), run.written())
     print(f"{len(scripts)} scripts were played; {others} outputs differ from the stored files" + ". The new outputs are in FILE.new" * bool(others))
-    return 1 if others else 0
+    return 1 if others or wrong else 0

@@ -16,7 +16,7 @@ DENIALS = ("greeted", "hidden", "not-owner", "not-teacher", "stale", "chosen", "
 CHANGES = ("fault", "link", "cut")
 
 
-def none() -> dict[str, int]:
+def no_moves() -> dict[str, int]:
     """Returns a new count of moves, with zero for each rule."""
     return dict.fromkeys(RULES, 0)
 
@@ -25,8 +25,8 @@ def none() -> dict[str, int]:
 class Student:
     """The counts of one student."""
 
-    granted: dict[str, int] = field(default_factory=none)
-    applied: dict[str, int] = field(default_factory=none)
+    granted: dict[str, int] = field(default_factory=no_moves)
+    applied: dict[str, int] = field(default_factory=no_moves)
     closes: int = 0  # how many of them applied a move of the student
     places: list[int] = field(default_factory=list)  # of the granted moves
     shared: int = 0  # applied moves at nodes with two owners
@@ -43,7 +43,7 @@ class Count:
     def __init__(self, lab: Lab) -> None:
         """Begins with the lab's students, before the first event."""
         self.students = {name: Student() for name in lab.students()}
-        self.shared = {i: {name: none() for name in owners} for i, owners in lab.shared().items()}
+        self.shared = {i: {name: no_moves() for name in owners} for i, owners in lab.shared().items()}
         self.chosen: dict[int, tuple[str, str]] = {}  # for each node the student and the rule
         self.words = dict.fromkeys(("move", "release", "close", *CHANGES), 0)  # how often each event occurred
         self.moves = self.moves_since = self.closes_since = 0  # all, and those since the last fault, link or cut
@@ -93,7 +93,7 @@ def at_shared(word: str, counts: dict[int, dict[str, dict[str, int]]]) -> list[l
 def lines_asked(lab: Lab, said: Iterable[Said]) -> list[list[object]]:
     """Returns the tally's lines about the students' requests in a record: denials by clause, malformed lines, and moves at shared nodes."""
     denied = {name: dict.fromkeys([*CLAUSES, "malformed"], 0) for name in lab.students()}
-    moves = {i: {name: none() for name in owners} for i, owners in lab.shared().items()}
+    moves = {i: {name: no_moves() for name in owners} for i, owners in lab.shared().items()}
     for it in said:
         # Only lines that came while a student was known count, and not those of the teacher or before a hello.
         if it.known not in denied:
@@ -120,8 +120,8 @@ def lines_by_reply(lab: Lab, said: list[Said], word: str, key: str, columns: tup
 
 
 def bounds(world: World) -> list[object]:
-    """Returns the tally's line `bounds`, with the greatest numbers until a network is stable: 3n + 2 min(L, n²/4)
-    moves, 2n rounds (one fewer if n is odd), and twice as many grants and closes together as moves."""
+    """Returns the tally's line `bounds`: the most moves, rounds and events until a network of n nodes and L links is stable. There are at most
+    3n + 2 min(L, n²/4) moves, 2n rounds (one fewer if n is odd), and twice as many grants and closes together as moves."""
     nodes, links = len(world.links), sum(map(len, world.links.values())) // 2
     moves = 3 * nodes + 2 * min(links, nodes * nodes // 4)
     return ["bounds", moves, 2 * nodes - nodes % 2, 2 * moves]
