@@ -37,7 +37,7 @@ def say(line: str) -> None:
 
 def progress_of(crates: Uses, number: int) -> Progress:
     """Returns the progress of a build of these crates on `number` processors, with no crate proved and no proof
-    begun. A share of each proof's time is divided by the number of its processes."""
+    begun. Of each proof's time, the share ALONE stays, and the rest is divided by the number of its processes."""
     share = ALONE + (1 - ALONE) / jobs_of(number)
     return Progress(crates, {crate: seconds * share for crate, seconds in expected(crates).items()}, at_once_of(number))
 
@@ -85,6 +85,7 @@ def prove(programs: list[str]) -> int:
             return 1
     for program in programs:
         (TOP / "crates" / program / "build.log").unlink(missing_ok=True)
+        # The time of a new file may be a little earlier than the clock's, so one second is allowed.
         if not program_of(program).exists() or program_of(program).stat().st_mtime < began - 1:
             say(f"the build failed: it has ended without an error, but hasn't made {program}")
             return 1
@@ -134,7 +135,7 @@ def main(words: list[str]) -> int:
             "stopped; the next build begins from nothing, since this toolchain reuses no proofs of earlier builds")
         signal.signal(stopped.number, signal.SIG_DFL)
         os.kill(os.getpid(), stopped.number)
-        return 1
+        return 1  # This isn't reached, because the signal ends this process.
     except OSError as error:
         say(f"the build failed: {error.filename or 'output'}: {error.strerror}")
         return 1

@@ -52,7 +52,7 @@ class Progress:
 
     def note(self, crate: str, is_kept: bool, now: float) -> None:
         """Notes at the time `now` that a crate is proved: by a proof that ended now, or by an earlier run if `is_kept`
-        is set."""
+        is set. Does nothing if the crate was noted before, or isn't one of this build."""
         if crate not in self.crates or crate in self.proved:
             return
         begun = self.begun.pop(crate, None)
@@ -65,7 +65,7 @@ class Progress:
 
     def left(self, now: float) -> float:
         """Returns the seconds from `now` on until all crates are proved, as estimated from the pace of this machine so
-        far. Plays the rest of the build: whenever a proof ends, the next ones begin."""
+        far. Simulates the rest of the build: whenever a proof ends, the next ones begin."""
         pace = self.took / self.planned
         ends = {crate: max(self.seconds[crate] * pace - (now - begun), OVERRUN * (now - begun)) for crate, begun in self.begun.items()}
         proved, at = {*self.proved}, 0.0

@@ -79,7 +79,7 @@ class Proving:
                 return self.outcome(whole, self.crates)
             whole.end()
             self.take(whole.place, self.progress.proved)
-            return self.each()
+            return self.by_single_runs()
         finally:
             for run in self.runs.values():
                 run.end()
@@ -97,7 +97,7 @@ class Proving:
         run.follow(self.progress, self.screen)
         return True
 
-    def each(self) -> Path | None:
+    def by_single_runs(self) -> Path | None:
         """Proves the remaining crates by one run each, or all by one run if this machine keeps no proofs. Returns the
         log of a run that failed, or None if none did."""
         self.runs.clear()

@@ -61,8 +61,9 @@ def saved_spans(file: Path = KEPT) -> Spans:
 
 
 def chain(spans: Spans, crate: str) -> list[str]:
-    """Returns the crates for which a crate waited, the first one first, and the crate itself at the end. In the result,
-    the crate before another is the one of those it uses whose proof ended last. `spans` has the times of the proofs."""
+    """Returns the chain of crates for which a crate waited, the first one first, and the crate itself at the end. Each
+    crate of the chain waited for the one before it: of the crates that it uses, the one whose proof ended last. `spans`
+    has the times of the proofs."""
     found, every = [crate], uses()
     while below := [it for it in every.get(found[0], []) if it in spans]:
         found.insert(0, max(below, key=lambda it: spans[it].end))

@@ -66,7 +66,7 @@ def sees(plant: Plant, program: Path) -> tuple[bool, str]:
     """Runs the test of a plant (a planted bug) with the program that has the plant. Returns whether the test fails with
     a line `FAILED: ..`, as it should. Also returns the last such line, or the last line of all if there is none. Raises
     `TimeoutExpired` after LIMIT seconds."""
-    given = {**os.environ, "MML_HOST": str(program)}
+    given = {**os.environ, "MML_HOST": str(program)}  # The tests run the program that MML_HOST names.
     done = subprocess.run([sys.executable, "-B", "-m", plant.module, plant.test], cwd=TOP, env=given, stdin=subprocess.DEVNULL,
                           stdout=subprocess.PIPE, stderr=subprocess.STDOUT, text=True, errors="replace", timeout=LIMIT, check=False)
     told = [line for line in done.stdout.splitlines() if line.startswith("FAILED: ")]
@@ -130,6 +130,7 @@ def main() -> int:
         if asked.prove:
             return try_proofs(tree, plants)
         if asked.build:
+            # If no plants are named, the program is built without any, and not with all.
             build(tree, PROGRAM, chosen(every, asked.plants), asked.build)
             return 0
         return try_each(tree, plants)

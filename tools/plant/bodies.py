@@ -62,13 +62,14 @@ def impl_header(lines: list[str], start: int) -> str:
     for line in lines[start + 1 :]:
         if header.endswith("{"):
             break
+        # If a list of type parameters is on lines of its own, no space follows `<`, and no comma is before `>`.
         header += line.strip() if header.endswith("<") else f" {line.strip()}"
     return header.replace(", >", ">")
 
 
 def bodies_of_file(file: str, lines: list[str]) -> Iterator[Body]:
     """Yields the bodies of the functions in a file with these lines. Leaves out tests."""
-    owner, number = "", 0
+    owner, number = "", 0  # the name of the `impl` around the line, followed by `::`, and the number of the line
     while number < len(lines):
         line = lines[number]
         if line.startswith("impl"):

@@ -38,6 +38,7 @@ def exchanges(line: str) -> Iterator[str]:
     code = code_of(line)
     for old, new in EXCHANGED:
         for found in re.finditer(re.escape(old), code):
+            # The beginning of a name such as `true_count` isn't a truth value.
             if not (old in ("true", "false") and re.match(r"\w", code[found.end() :])):
                 yield line[: found.start()] + new + line[found.end() :]
 

@@ -1,6 +1,7 @@
-"""Draws random plants, one small change in each of many functions, and asks the prover about them. The same seed draws
-the same plants. If a change doesn't compile, or the prover can't decide about it, the next change of the same function
-is tried. In all functions here, `running` runs the checks."""
+"""Draws random plants, and asks the prover about them. A *plant* is a bug in the body of a function, here one small
+change. The same seed draws the same plants. If a change doesn't compile, or the prover can't decide about it, the next
+change of the same function is tried. A *round* is what one check tries at once: edits, and the changed texts of the
+crate's files. In all functions here, `tree` is the copy of the repository, and `running` runs the checks."""
 from __future__ import annotations
 
 import random
@@ -79,7 +80,7 @@ def sift(tree: Tree, crate: str, plants: list[Plant], running: Running) -> Itera
         texts: dict[str, str] = {}
         for plant in tried:
             texts = apply_edit(plant.edit, texts, tree.folder(crate))
-        errors = read_output(crate, look(tree, crate, texts, running)).errors
+        errors = read_output(crate, check_types(tree, crate, texts, running)).errors
         if not errors:
             yield from ((plant, True) for plant in tried)
         elif len(tried) == 1:
@@ -104,14 +105,15 @@ def programs(tree: Tree, crate: str, drawn: list[list[Plant]], running: Running)
         todo = [plants[1:] for plants in todo if plants not in last]
 
 
-def look(tree: Tree, crate: str, texts: dict[str, str], running: Running) -> str:
-    """Returns the output of a check of the names and types in a copy of a crate. `texts` has the new texts of changed
-    files, by their paths in the crate."""
+def check_types(tree: Tree, crate: str, texts: dict[str, str], running: Running) -> str:
+    """Checks the names and types in a copy of a crate, and proves nothing. Returns the output of the check. `texts` has
+    the new texts of changed files, by their paths in the crate."""
     with tempfile.TemporaryDirectory(prefix="mml-plant-") as room:
         copy, kept = Path(room) / "copy", Path(room) / "kept"
         kept.mkdir()
         copy_crate(tree.folder(crate), copy, texts)
         try:
+            # With an empty name after `--only`, the prover proves no function.
             return running.run([*check_words(tree, crate, set(), kept), "--only", ""], copy).output
         finally:
             shutil.rmtree(copy, ignore_errors=True)
@@ -139,9 +141,9 @@ def ask_crate(tree: Tree, crate: str, drawn: list[list[Plant]], kept: str, runni
 
 
 def ask_once(tree: Tree, crate: str, drawn: list[list[Plant]], kept: str, running: Running) -> Iterator[tuple[Plant, str]]:
-    """Yields for each function its first plant that compiles, or its last one, and the prover's verdict on it. `drawn`
-    has the plants of each function, and `kept` the name of the folder in which the prover saves checked modules. One
-    check of names and types and one proof are enough if each plant compiles, and none hinders another."""
+    """Yields for each function of a crate its first plant that compiles, or its last one, and the prover's verdict on
+    it. `drawn` has the plants of each function, and `kept` the name of the folder in which the prover saves checked
+    modules. One check of names and types and one proof are enough if each plant compiles, and none hinders another."""
     sifted = [*programs(tree, crate, drawn, running)]
     yield from ((plant, NO_PROGRAM) for plant, is_program in sifted if not is_program)
     todo = [[plant for plant, is_program in sifted if is_program]]
@@ -169,7 +171,7 @@ def ask_prover(tree: Tree, crate: str, plants: list[Plant], kept: str, running: 
     for edit in edits:
         texts = apply_edit(edit, texts, tree.folder(crate))
     with tempfile.TemporaryDirectory(prefix="mml-plant-") as room:
-        if kept:
+        if kept:  # Then modules that were checked for the library aren't checked again.
             hand_on(tree.library(crate), Path(room) / "kept" / kept)
         return read_output(crate, try_round(tree, crate, Round(edits, texts), Path(room), running).output)
 

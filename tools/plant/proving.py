@@ -1,5 +1,6 @@
 """The prover's verdicts on plants, bugs that are put into bodies of the crates. One check of a crate tries all plants
-that are in different functions and texts."""
+that are in different functions and texts. What one check tries is a *round*. In
+all functions here, `tree` is the copy of the repository."""
 from __future__ import annotations
 
 import tempfile
@@ -38,7 +39,7 @@ def prove_crate(tree: Tree, crate: str, plants: list[Plant], kept: str, running:
     edits = [replace(plant.edit, wanted=(Refusal(plant.function, ANY),)) for plant in named.values()]
     with tempfile.TemporaryDirectory(prefix="mml-plant-") as room:
         for tried in rounds_of(edits, tree.folder(crate)):
-            if kept:
+            if kept:  # Then modules that were checked for the library aren't checked again.
                 hand_on(tree.library(crate), Path(room) / "kept" / kept)
             told = read_output(crate, try_round(tree, crate, tried, Path(room), running).output)
             if told.errors or told.ending is None:
