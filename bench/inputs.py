@@ -49,7 +49,8 @@ def sees(turns: int) -> Iterable[str]:
 
 
 def sees_and_more(turns: int) -> Iterable[str]:
-    """Yields the lines of `sees(turns)`. Each request to see has a further key, which no request needs."""
+    """Yields the lines of a script: the teacher's hello, and `turns` requests, each to see one of the nodes 1, 2, 3 in
+    rotation. Each of these requests has a further key, `x`, which no request needs."""
     yield TESS
     for turn in range(turns):
         yield f'1 {{"do":"see","node":{turn % 3 + 1},"x":[]}}'

@@ -28,7 +28,7 @@ def halves(n: int) -> tuple[list[tuple[int, int]], list[int]]:
 
 def lab(links: list[tuple[int, int]], pointers: list[int]) -> str:
     """Returns the text of a lab with these links and pointers. The pointer 0 points at no node. The register m of each
-    node is true, as if the node were married, and none is."""
+    node is true, although no node is in a pair."""
     text = f'events = 100000\nsessions = 2\nlinks = {[list(link) for link in links]}\nteacher = {{ name = "tess", key = "slate-40" }}\n'
     text += 'student = [{ name = "ana", key = "rook-17" }]\n'
     for node, pointer in enumerate(pointers, 1):
