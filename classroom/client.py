@@ -277,7 +277,7 @@ def connected(port: int, limit: float, slip: Slip | None = None, host: str = "12
     except (OSError, NoDoor) as error:
         if it is not None:
             it.close()
-            if isinstance(error, ConnectionError) or type(error).__name__ in ("SSLEOFError", "SSLZeroReturnError"):
+            if isinstance(error, ConnectionError) or type(error).__name__ in ("SSLEOFError", "SSLZeroReturnError"):  # by name: `ssl` isn't imported.
                 raise Refused("busy") from None  # A full door accepts a connection, and closes it at once.
         where = f"door at {slip.door}" if slip and slip.door else f"server at port {port}"
         raise error if isinstance(error, NoDoor) else NoServer(f"no {where}: {error}") from None
@@ -346,7 +346,7 @@ class Client:
     def ask(self, **request: object) -> dict[str, Any]:
         """Sends a request, and returns its reply. Raises Malformed, and sends nothing, if the request is wrong, and Denied, Refused or Closed if it fails."""
         if self._ended:
-            raise Closed("this connection has ended: make another Client, and say hello again")
+            raise Closed("this connection has ended: make another Client, which says hello again")
         line = line_of(request)
         try:
             self._socket.settimeout(self.limit)
@@ -383,7 +383,7 @@ class Client:
         raise Moving(f"in {tries} attempts the configuration changed between two looks: try again")
 
     def move(self, look: Look, rule: Rule | None = None, partner: int | None = None) -> Move:
-        """Asks for a move by `rule` or the look's rule. Marries `partner`, or the highest node that points here. Raises Malformed without a rule or partner."""
+        """Asks for a move by `rule` or the look's, and returns it. Marries `partner`, or the highest node pointing here. Raises Malformed if one is missing."""
         if rule is None and look.rule is None:
             raise Malformed(f"the look at node {look.node} shows no rule: ask for no move there, or name a rule")
         request: dict[str, object] = {"do": "move", "node": look.node, "at": look.at, "rule": rule or look.rule}
@@ -401,24 +401,24 @@ class Client:
         self.hang_up()
 
     def close(self) -> Close:
-        """Closes the step, which applies all chosen moves at once, for a teacher."""
+        """Closes the step, which applies all chosen moves at once, for a teacher. Returns which nodes moved."""
         it = self.ask(do="close")
         return Close(it["at"], it["place"], tuple(it["moved"]))
 
     def fault(self, node: int, p: int | None, m: bool) -> Edit:
-        """Sets the registers p and m of a node, for a teacher."""
+        """Sets the registers p and m of a node, for a teacher, and returns what that did."""
         return self._edit(do="fault", node=node, p=p, m=m)
 
     def link(self, a: int, b: int) -> Edit:
-        """Adds the link between the nodes a and b, for a teacher."""
+        """Adds the link between the nodes a and b, for a teacher, and returns what that did."""
         return self._edit(do="link", a=a, b=b)
 
     def cut(self, a: int, b: int) -> Edit:
-        """Removes the link between the nodes a and b, for a teacher."""
+        """Removes the link between the nodes a and b, for a teacher, and returns what that did."""
         return self._edit(do="cut", a=a, b=b)
 
     def release(self, node: int) -> Edit:
-        """Drops the chosen move of a node, for a teacher."""
+        """Drops the chosen move of a node, for a teacher, and returns what that did."""
         return self._edit(do="release", node=node)
 
     def _edit(self, **request: object) -> Edit:
@@ -477,12 +477,12 @@ def stop(error: Exception) -> tuple[int, str]:
 
 
 def goes_on(error: Denied | Refused) -> bool:
-    """Returns whether a bot looks again after this error, since correct bots meet it too or the server is out of memory. If false, the bot stops."""
+    """Returns whether a correct bot may get this error too. Then the bot looks again, and otherwise it stops."""
     return error.word not in STOPS
 
 
 def enter(slip: Slip, patience: float = 60.0) -> Client:
-    """Returns a connection by a slip, after its hello. If no seat or memory is free, retries each second, and raises Refused after `patience` seconds."""
+    """Returns a connection by a slip, after its hello. Retries for `patience` seconds if no seat or memory is free. Raises Closed, Denied or Refused."""
     end = time.monotonic() + patience
     while True:
         try:
@@ -540,7 +540,7 @@ def said(value: object) -> str:
 
 def wrong(line: str) -> str | None:
     """Returns what is wrong with a line as a request, or None if nothing is. A key that occurs twice is wrong too."""
-    if len(sent(line)) >= MOST:
+    if len(sent(line)) > MOST:
         return f"the line has more than {MOST} bytes: the server closes the connection"
     if line.startswith("\ufeff"):
         return "the line begins with a byte order mark: leave it out"
@@ -570,7 +570,7 @@ def wrong(line: str) -> str | None:
 
 
 def hint_for_json(line: str, error: json.JSONDecodeError) -> str:
-    """Returns a hint how to correct a line that isn't JSON, in parentheses, or an empty text if no hint is known."""
+    """Returns a hint how to correct a line that isn't JSON, in parentheses, or an empty text if none is known. `error` is that of the JSON reader."""
     rest, before = line[error.pos:], line[:error.pos].rstrip()
     word = (re.match(r"\w*", rest) or [""])[0]
     rows = (
@@ -632,7 +632,7 @@ def sent(line: str) -> bytes:
 
 
 def whole(text: str) -> int | float:
-    """Returns the integer that a text spells, but -1 if it has a sign, since then it is out of range, and infinity if it is too large for a double."""
+    """Returns the integer in a text. Returns -1 if it has a sign, because it is out of range then, and infinity if it is too large for a double."""
     return -1 if text.startswith("-") else int(text) if float(text) < float("inf") else float("inf")
 
 
@@ -723,7 +723,7 @@ class ByHand:
         except NotReply as error:
             other = None if self.greeted else no_server(self.port, error)
             raise other or error from None
-        if len(sent(line)) >= MOST:
+        if len(sent(line)) > MOST:
             return LAST["long"]
         if not self.greeted and waited < GREETING:
             raise NoServer(f"no server at port {self.port} answers a hello")

@@ -1,4 +1,5 @@
-"""The command line of `./class`: its subcommands and their options."""
+"""The command line of `./class`: its subcommands and their options. A function that adds the options of a subcommand
+imports its modules, so that a call imports only those of one subcommand."""
 from __future__ import annotations
 
 import argparse
@@ -151,7 +152,7 @@ EACH: dict[str, tuple[str, Callable[[argparse.ArgumentParser], None]]] = {
     "play": ("make a page that replays a run, or a picture of configurations", add_play),
     "practise": ("try a bot, or play by hand: built-in bots play the other nodes, and each denial is explained", options_of("bots.practise")),
     "grade": ("test bots in many cases, with limits on their time and memory", options_of("bots.grade")),
-    "experiment": ("make many runs, and a table and a chart of their moves, closes and rounds", options_of("bots.experiment")),
+    "experiment": ("make many runs, and a table and a chart of their moves, closed steps and rounds", options_of("bots.experiment")),
     "demo": ("run a small class with four bots, and count its marks", add_demo),
 }
 

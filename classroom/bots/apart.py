@@ -4,7 +4,8 @@ server listens, and the files that it needs, which it can't change. No superuser
 The files that the program writes are kept in memory, in a file system of limited size, and disappear with it.
 
 A program in such namespaces is *kept apart*. The *host* is this machine outside the namespaces, whose files are visible
-at the path HOST until the new root is complete.
+at the path HOST until the new root is complete. The program's *slip* is the file with the data to connect, and its
+*keeper* is the process that enforces its limits. A `World` says what the program sees.
 """
 from __future__ import annotations
 
@@ -56,9 +57,9 @@ def require_success(result: int, what: str) -> None:
 
 def mount(source: str, target: str, kind: str | None, flags: int, options: str = "") -> None:
     """Mounts the file system `source` of the type `kind` at the path `target`, with these flags and options of the
-    system call `mount`. If `flags` has BIND, makes the file or folder `source` visible there instead. If it has
-    PRIVATE, mounts nothing, and keeps later mounts at and below `target` inside this namespace. Raises `OSError` if the
-    system refuses the call."""
+    system call `mount`. If `flags` has BIND, makes the file or folder `source` visible there instead, with the mounts
+    below it if `flags` also has DEEP. If it has PRIVATE, mounts nothing, and keeps later mounts at `target` inside this
+    namespace, and with DEEP also those below. Raises `OSError` if the system refuses the call."""
     words = [None if word is None else os.fsencode(word) for word in (source, target, kind)]
     require_success(LIBC.mount(*words, ctypes.c_ulong(flags), options.encode() or None), target)
 
@@ -78,7 +79,7 @@ def show(target: str, source: str) -> None:
     elif os.path.exists(HOST + source):
         os.makedirs(os.path.dirname(target), exist_ok=True)
         with open(target, "xb"):
-            pass
+            pass  # An empty file is enough, but a file can be made visible only at a path that has one.
     else:
         return
     mount(HOST + source, target, None, BIND | DEEP)
@@ -176,7 +177,7 @@ def drop_rights() -> None:
     """Drops the rights that the first process has in its namespaces, for this process and all that it starts. Raises
     `OSError` if the system refuses that."""
     for right in range(MOST_RIGHTS):
-        LIBC.prctl(DROP_BOUND, right, 0, 0, 0)
+        LIBC.prctl(DROP_BOUND, right, 0, 0, 0)  # Fails without harm for a number that no right of this system has.
     LIBC.prctl(AMBIENT, CLEAR_ALL, 0, 0, 0)
     require_success(LIBC.capset(struct.pack("Ii", RIGHTS_VERSION, 0), bytes(24)), "capset")  # The 24 zero bytes are empty sets of rights.
     require_success(LIBC.prctl(NO_NEW_RIGHTS, 1, 0, 0, 0), "prctl")

@@ -2,8 +2,9 @@
 take.
 
 A *bot* is a student's program under test. A *case* is a lab that the bot plays, with troubles during the run. The lab's
-class runs in this process (`classroom.bots.playing`), and its *relay* is the port to which the bot connects. Functions
-that run the class raise `Fails` if the bot has done something wrong, and `Stopped` after an interrupt.
+class runs in this process (`classroom.bots.playing`), and its *relay* is the port to which the bot connects. A bot is
+*kept apart* if it runs in namespaces of its own (`classroom.bots.apart`). Functions that run the class raise `Fails` if
+the bot has done something wrong, and `Stopped` after an interrupt.
 """
 from __future__ import annotations
 
@@ -108,8 +109,8 @@ class Attempt:
         return [node.id for node in self.case.made.nodes if node.owners == [self.case.who]]
 
     def note_denial(self, no: NotGranted) -> None:
-        """Records in `wrong` why a line of the bot wasn't granted, and `turn` then fails the case. Ignores the denials
-        and refusals in ALLOWED, which correct bots get too, and all lines after the first that is recorded."""
+        """Records in `wrong` why the line in `no` wasn't granted, so that `turn` fails the case. Ignores the denials
+        and refusals in ALLOWED, which correct bots get too. Keeps the reason of the first line that is recorded."""
         if no.word in ALLOWED or self.wrong:
             return
         hint = f"; {HINTS[no.word]}" if no.word in HINTS else ""
@@ -118,7 +119,7 @@ class Attempt:
     def launch(self) -> None:
         """Starts the bot. If the bot is kept apart, waits for its namespaces, and lets the relay listen at its port
         there. Raises `Fails` if the bot ends meanwhile or the namespaces take too long, and `Stopped` after an
-        interrupt."""
+        interrupt. Raises `Fault` if the process that enforces the bot's limits can't be started."""
         self.kept = RunningBot(self.bot, self.slip, self.room.folder, self.limits.seconds, self.limits.megabytes, self.room.output.fileno(), self.world)
         end = time.monotonic() + LATEST
         while self.world is not None:
@@ -169,6 +170,7 @@ class Attempt:
         signal, the text also has what was being done to it at that time. `how` is `ended STATUS` or `killed REASON`.
         Raises `NotStarted` if the bot's command couldn't be run."""
         kind, _, what = how.partition(" ")
+        # Only the reason why a command can't be run begins with the command.
         if kind == "killed" and what.startswith(f"{self.bot.words[0]}: "):
             raise NotStarted(f"the bot can't be started: {what}")
         text = f"the bot {end_in_words(how, self.limits.seconds)}" + (self.doing if kind == "ended" else "")
@@ -176,8 +178,8 @@ class Attempt:
         return f"{text}; the last line of its output is: {last}" if last else text
 
     def until_stable(self, after: str = "") -> None:
-        """Runs the class until no node is privileged. Raises `Fails` after the time limit. `after` names, for the
-        error, what was done to the class before, unless it is empty."""
+        """Runs the class until it is stable, that is, no rule can be applied at any node. Raises `Fails` after the time
+        limit. `after` names, for the error, what was done to the class before, unless it is empty."""
         end = time.monotonic() + self.limits.seconds
         while not self.playing.is_stable():
             if time.monotonic() > end:
@@ -217,15 +219,16 @@ class Attempt:
         self.doing = ON
 
     def close(self) -> None:
-        """Ends the bot and the class. No part of the attempt can be used afterwards."""
+        """Ends the bot and the class, so that the class can't be run any longer. The counts of the attempt and
+        `write_evidence` can still be used."""
         if self.kept is not None:
             self.kept.stop()
         self.playing.end()
 
     def write_evidence(self, folder: Path) -> None:
-        """Makes a folder, and writes into it the lab, the script that repeats the run, the conversation and the bot's
-        output. If the script can be run, also writes the page of the run. Raises `OSError` if the folder exists or
-        can't be written, and `Fault` if the page can't be made."""
+        """Makes a folder, and writes into it the lab, the script that repeats the run, the bot's lines with their
+        replies, and the bot's output. If the program can run the script, also writes the page of the run. Raises
+        `OSError` if the folder exists or can't be written, and `Fault` if the page can't be made."""
         folder.mkdir(parents=True)
         self.playing.write(folder)
         (folder / "output.txt").write_bytes(os.pread(self.room.output.fileno(), MOST_KEPT, 0))

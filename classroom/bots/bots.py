@@ -95,8 +95,9 @@ class RunningBot:
                  world: World | None = None) -> None:
         """Starts the bot in `folder`, with the path `slip` as its last argument. `seconds` limits its processor time,
         `megabytes` its memory, and `output` is the file descriptor that it prints to. If `seconds` is None, only its
-        memory is limited, and it gets the whole environment of this process, like a student's own program at home. If a
-        world is given, the bot is kept apart in it. Raises `Fault` if the keeper can't be started."""
+        memory is limited, and it gets the whole environment of this process, like a student's own program at home. If
+        `world` is given, the bot runs in namespaces of its own, and `world` says which files and which port it sees
+        there. Raises `Fault` if the keeper can't be started."""
         self.how = ""
         self.channel, theirs = socket.socketpair()
         at_home = seconds is None
@@ -147,8 +148,8 @@ class RunningBot:
         return self.how
 
     def last_output(self) -> str:
-        """Returns the line that the keeper printed before it ended, or an empty text if the keeper was killed. Reads
-        without waiting, since the bot may hold the pipe open too."""
+        """Returns the line that the keeper printed before it ended, or an empty text if the keeper failed or was
+        killed. Reads without waiting, since the bot may hold the pipe open too."""
         assert self.process.stdout is not None
         os.set_blocking(self.process.stdout.fileno(), False)
         try:
@@ -177,7 +178,7 @@ class RunningBot:
             pass
         end = time.monotonic() + PATIENCE
         while self.process.poll() is None and time.monotonic() < end:
-            self.process.send_signal(signal.SIGCONT)
+            self.process.send_signal(signal.SIGCONT)  # The bot may have stopped its keeper.
             try:
                 self.process.wait(AGAIN)
             except subprocess.TimeoutExpired:
@@ -190,7 +191,7 @@ class RunningBot:
 
 def namespaces_refusal() -> str:
     """Tries to run a program that does nothing in namespaces of its own. Returns why bots can't be kept apart on this
-    system, or an empty text if they can."""
+    system, or an empty text if they can. Raises `Fault` if the keeper can't be started."""
     it = Bot("true", ("/bin/true",))
     try:
         with tempfile.TemporaryDirectory() as room, tempfile.TemporaryFile() as output:
@@ -232,8 +233,8 @@ def signal_name(number: int) -> str:
 
 
 def last_line(output: int) -> str:
-    """Returns the last line that a bot has printed, or an empty text if there is none. `output` is the descriptor of
-    the file with its output."""
+    """Returns the last line that a bot has printed, or an empty text if there is none. Of a line longer than SHOWN
+    bytes, returns only the end. `output` is the descriptor of the file with its output."""
     size = os.fstat(output).st_size
     lines = os.pread(output, SHOWN, max(0, size - SHOWN)).decode(errors="replace").strip().splitlines()
     return lines[-1] if lines else ""

@@ -2,6 +2,7 @@
 
 A *row* is the result of one run. A *panel* shows the rows of one family of networks under one daemon, the part of a run
 that decides which nodes move. A *theme* is `colours.LIGHT` or `colours.DARK`: the colours of a light or a dark page.
+The proved program prints the bounds, so functions that use them raise `Fault` if it isn't built.
 """
 from __future__ import annotations
 
@@ -17,7 +18,7 @@ from classroom.pages import colours
 WIDE, HIGH = 360, 362  # the width and height of a panel
 LEFT, RIGHT, ABOVE, BELOW = 48, 14, 94, 38
 LINE = 16  # the distance of two lines of text
-KEY = 118
+KEY = 118  # the height of the legend
 MEASURES: list[tuple[str, str, Callable[[Row], int]]] = [
     ("moves", "--point", lambda row: row.moves),
     ("closes", "--can", lambda row: row.closes),
@@ -46,6 +47,7 @@ class Scale:
 
     def __init__(self, least: int, most: int, high: int) -> None:
         """Maps the numbers of nodes `least` to `most`, and counts from 0 to `high`."""
+        # Positions are divided by these ranges, which therefore can't be empty.
         self.least, self.most, self.high = least, max(most, least + 1), max(high, 1)
 
     def x(self, nodes: float) -> float:
@@ -86,6 +88,7 @@ def axes(scale: Scale) -> list[str]:
         parts.append(line([(LEFT, y), (WIDE - RIGHT, y)], "tick"))
         parts.append(f'<text class="end" x="{LEFT - 6}" y="{y + 4:.1f}">{count}</text>')
     step = tick_distance(scale.most - scale.least)
+    # The first number is the least multiple of `step` in the range.
     for nodes in range(-(-scale.least // step) * step, scale.most + 1, step):
         parts.append(f'<text x="{scale.x(nodes):.1f}" y="{HIGH - BELOW + 16}">{nodes}</text>')
     parts.append(f'<text class="end" x="{WIDE - RIGHT}" y="{HIGH - 6}">nodes</text>')
@@ -130,7 +133,7 @@ def closest_to_bounds(rows: list[Row]) -> list[tuple[str, Row, int, int]]:
 
 
 def closest_lines(rows: list[Row]) -> list[str]:
-    """Returns the SVG text lines below a panel's title, which name the runs in `rows` that came closest to their
+    """Returns the SVG text lines below a panel's title. They name the runs in `rows` that came closest to their
     bounds."""
     texts = [f"{count} of at most {bound} {name} ({row.nodes} nodes, seed {row.seed})" for name, row, count, bound in closest_to_bounds(rows)]
     return [f'<text x="{WIDE / 2}" y="{18 + LINE * number}">{text}</text>' for number, text in enumerate(["the runs closest to their bounds:", *texts], 1)]
@@ -156,6 +159,7 @@ def legend(runs: int, theme: str) -> str:
 def chart(rows: list[Row], theme: str = colours.LIGHT) -> str:
     """Returns the SVG document of the runs in `rows`, in a theme's colours. It has a panel for each family and daemon,
     families side by side and daemons below each other, and the legend."""
+    # A family's name may have the size of the network, as `random:8:12` does, and these sizes share a panel.
     families = list(dict.fromkeys(row.family.partition(":")[0] for row in rows))
     daemons = list(dict.fromkeys(row.daemon for row in rows))
     wide, high = max(WIDE * len(families), WIDE), HIGH * len(daemons) + KEY + 8

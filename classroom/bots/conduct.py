@@ -27,7 +27,7 @@ FLOODS = "the bot floods the server: it sends line after line without a pause; a
 
 
 def number_of(value: object) -> int:
-    """Returns a value from a request if it is an integer, and otherwise 0."""
+    """Returns a value from a request if it is an integer, and otherwise 0. A truth value isn't an integer here."""
     return value if isinstance(value, int) and not isinstance(value, bool) else 0
 
 
@@ -44,7 +44,7 @@ def most_quits(nodes: int) -> int:
 
 def polling_fault(lines: int, seconds: float, nodes: int) -> str:
     """Returns what is wrong with a bot of `nodes` nodes that sent `lines` lines in `seconds` seconds while nothing
-    changed, or an empty text if these aren't too many."""
+    changed. Returns an empty text if these lines aren't too many."""
     if lines <= RATE * (nodes + 1) * seconds:
         return ""
     return (f"the bot sent {lines / seconds:.0f} lines a second while nothing changed: a bot waits a tenth of a second when it has looked at all its "

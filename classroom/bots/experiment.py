@@ -1,9 +1,8 @@
-"""`./class experiment`: measures how many moves, closes and rounds runs take, and compares them with the proved
-bounds.
+"""`./class experiment`: measures how many moves, closes and rounds runs take, and compares them with the proved bounds.
 
-A *daemon* decides which nodes move in each step, and a *close* is the end of a step. A *setting* is a family of networks with a size, a
-daemon and a start, and a run is a setting with a seed. The *table* is the file of `--csv`, with a *row* for each run,
-and a *part* is one machine's share of the runs.
+A *daemon* decides which nodes move in each step, and a *close* is the end of a step. A *setting* is a family of
+networks with a size, a daemon and a start, and a run is a setting with a seed. The *table* is the file of `--csv`, with
+a *row* for each run, and a *part* is one machine's share of the runs.
 """
 from __future__ import annotations
 
@@ -77,16 +76,18 @@ def add_words(words: argparse.ArgumentParser) -> None:
 
 def settings(words: argparse.Namespace) -> list[Setting]:
     """Returns the settings of each family, size and daemon in the arguments. Leaves out sizes for which a family has no
-    network. Raises `Fault` if no setting is left, or if a family or daemon can't be used."""
+    network. Raises `Fault` if no setting is left, if a size is above the limit, or if a family or daemon can't be
+    used."""
     for how in words.daemon:
         if how.kind == "by-hand":
             raise Fault("--daemon by-hand: in an experiment nobody closes steps by hand; name another daemon")
-    networks.within(words.nodes[-1])
+    networks.within(words.nodes[-1])  # Raises `Fault` if the largest size is above the limit.
     found = []
     for family in words.family.split(","):
         for nodes in words.nodes if not family.startswith(SIZED) else [0]:  # The name of a SIZED family has the size, so 0 is only a placeholder.
             spelled = f"random:{nodes}:{links_of(nodes)}" if family == "random" else family
             try:
+                # The network of one run shows whether the family has this size, and its number of nodes.
                 network = drawn(Setting(spelled, nodes, words.daemon[0], words.start), words.seed)
             except networks.UnknownFamily:
                 raise
@@ -228,7 +229,8 @@ def closest(family: str, daemon: str, own: list[Row]) -> str:
 
 
 def make_table(path: Path) -> None:
-    """Writes a table that has only the names of its columns, if the file doesn't exist or is empty."""
+    """Writes a table that has only the names of its columns, if the file doesn't exist or is empty. Raises `OSError` if
+    that fails."""
     if not path.exists() or path.stat().st_size == 0:
         path.write_text(",".join(COLUMNS) + "\n", encoding="utf-8")
 
@@ -239,10 +241,27 @@ def key_of(it: Setting, seed: int) -> Key:
 
 
 def write_sorted(path: Path, rows: list[Row]) -> None:
-    """Replaces the table at `path` by one with these rows, sorted by the values that identify their runs."""
+    """Replaces the table at `path` by one with these rows, sorted by the values that identify their runs. Raises
+    `OSError` if that fails, and leaves the old table unchanged."""
     new = path.with_name(f"{path.name}.new")
     new.write_text(",".join(COLUMNS) + "\n" + "".join(map(line_of, sorted(rows, key=key))), encoding="utf-8")
     new.replace(path)
+
+
+def joined(table: Path, others: list[Path]) -> dict[Key, Row]:
+    """Returns the rows of a table, which may be missing, and of the tables `others`, by the values that identify their
+    runs. Raises `Fault` if one of `others` is missing, if a file isn't a table, or if two tables differ about the same
+    run."""
+    found: dict[Key, tuple[Row, Path]] = {key(row): (row, table) for row in read_rows(table)}
+    for file in others:
+        if not file.exists():
+            raise Fault(f"{file}: there is no such file; --merge needs the tables of all parts", FAILED)
+        for row in read_rows(file):
+            first, where = found.setdefault(key(row), (row, file))
+            if first != row:
+                raise Fault(f"{file}: the table {where} has different numbers for the same run; delete the wrong row there, or this one: "
+                            f"{line_of(row).strip()}", FAILED)
+    return {its: row for its, (row, _) in found.items()}
 
 
 def merge(words: argparse.Namespace, asked: set[Key]) -> int:
@@ -250,14 +269,7 @@ def merge(words: argparse.Namespace, asked: set[Key]) -> int:
     chart of the runs of the arguments, which `asked` identifies. Returns the exit status, which is WARNED if one of
     these runs is missing, or if any run exceeds a bound. Raises `Fault` if a file is missing, isn't a table or can't be
     written, or if two tables differ about the same run."""
-    rows: dict[Key, Row] = {key(row): row for row in read_rows(Path(words.csv))}
-    for file in map(Path, words.merge):
-        if not file.exists():
-            raise Fault(f"{file}: there is no such file; --merge needs the tables of all parts", FAILED)
-        for row in read_rows(file):
-            if rows.setdefault(key(row), row) != row:
-                raise Fault(f"{file}: another table has different numbers for the same run; delete the wrong row there, or this one: "
-                            f"{line_of(row).strip()}", FAILED)
+    rows = joined(Path(words.csv), [*map(Path, words.merge)])
     with naming_file(words.csv, "", "name another file by --csv, and if this one has rows already, name it by --merge"):
         write_sorted(Path(words.csv), list(rows.values()))
     broken = [row for row in rows.values() if row.exceeds_bounds()]

@@ -19,8 +19,9 @@ def lines_of(playing: Playing, more: bytes = b"") -> list[list[str]]:
 
 
 def of_denial(playing: Playing, line: bytes) -> str:
-    """Returns a semicolon and the explanation of why `line`, the last line of the class `playing`, is denied, or an
-    empty text if there is no explanation. `line` begins with the number of its connection, as in a script."""
+    """Returns a semicolon and the explanation of why `line` was denied just now in the class `playing`. Returns an
+    empty text if there is no explanation. `line` begins with the number of its connection, as in a script. The script
+    of the class doesn't have it, since a denied line makes no event."""
     found = [text for place, _, text in lines_of(playing, line) if place != "now"]
     return f"; {MARK}{found[-1]}" if found else ""
 

@@ -33,7 +33,8 @@ from classroom.run.daemons import daemons
 
 MOST_AT_ONCE = 16  # the most bots that run side by side
 ROOMS: set[Path] = set()  # the folders of the running bots
-LONG = 0.5  # seconds: if writing the results takes longer, they aren't written after each case
+LONG = 0.5  # seconds: if writing the results takes longer, they aren't written after each case, but again at the end
+STDERR = 2  # the number of the file to which error lines are written
 SPARING = 9  # after a slow write, the pause before the next one is this many times as long as the write
 
 
@@ -81,9 +82,10 @@ def own_room() -> Iterator[Path]:
         yield folder
     finally:
         ROOMS.discard(folder)
-        if folder.is_symlink():
+        if folder.is_symlink():  # The bot may have replaced its folder by a link.
             folder.unlink()
         else:
+            # The bot may have taken away the rights that are needed for removing its folders.
             for command in ("chmod", "-R", "u+rwx"), ("rm", "-rf"):
                 run([*command, "--", folder])
 
@@ -158,9 +160,12 @@ class Written:
         self.order = {pair: index for index, pair in enumerate(pairs)}
         self.results = results
         self.next = 0.0  # the time from which on the results are written again
+        self.is_complete = False  # Whether the files have all results so far.
 
     def add(self, result: Result) -> None:
-        """Adds a result, and writes the files anew. If writing takes long, writes them only now and then."""
+        """Adds a result, and writes the files anew. If writing takes long, writes them only now and then, so `write`
+        has to be called at the end."""
+        self.is_complete = False
         self.results.append(result)
         begun = time.monotonic()
         if begun >= self.next:
@@ -170,15 +175,23 @@ class Written:
 
     def write(self) -> list[str]:
         """Writes the files in all forms that were asked for. Returns an error line for each file that couldn't be
-        written."""
-        self.results.sort(key=lambda result: self.order[result.bot, graded.case_name(result)])
+        written. An interrupt may come meanwhile, whose handler calls this method too."""
+        # A list is empty while its method `sort` runs, so that the handler would write no results.
+        self.results[:] = sorted(self.results, key=lambda result: self.order[result.bot, graded.case_name(result)])
         faults = []
         for form, file in self.files.items():
             try:
                 graded.write(form, file, self.results)
             except Fault as fault:
                 faults.append(f"{fault}; nothing was written to this file: make room on the disk, or name another file")
+        self.is_complete = not faults
         return faults
+
+    def complete(self) -> None:
+        """Writes the files if they lack a result. Prints an error line for each file that couldn't be written. Can be
+        called by the handler of a signal, in which `print` could fail."""
+        for fault in self.write() if not self.is_complete else ():
+            os.write(STDERR, f"class: {printable(fault)}\n".encode())
 
 
 def print_and_write(found: Iterator[Result], written: Written) -> None:
@@ -193,18 +206,25 @@ def print_and_write(found: Iterator[Result], written: Written) -> None:
         full = full or bool(result.unkept)
 
 
-def catch_interrupts() -> threading.Event:
-    """Makes this process catch interrupts, and returns an event that the first one sets. A second interrupt kills all
-    bots at once and ends this process."""
+def catch_interrupts(written: Written) -> threading.Event:
+    """Makes this process catch interrupts, and returns an event that the first one sets. A second interrupt writes the
+    results that the files of `written` lack, kills all bots at once, and ends this process. If writing takes too long,
+    a third one ends this process without it."""
     # The caller may set `stop` too, so only `first` says whether an interrupt has come.
-    stop, first = threading.Event(), threading.Event()
+    stop, first, second = threading.Event(), threading.Event(), threading.Event()
 
     def interrupt(*_: object) -> None:
-        """Sets the event, or ends this process at the second call."""
-        if first.is_set():
+        """Sets the event, or ends this process at the second call and at each later one."""
+        if not first.is_set():
+            first.set()
+            stop.set()
+            return
+        try:
+            if not second.is_set():
+                second.set()
+                written.complete()
+        finally:
             end_at_once(FAILED, list(ROOMS))
-        first.set()
-        stop.set()
 
     for number in (signal.SIGINT, signal.SIGTERM, signal.SIGHUP):
         signal.signal(number, interrupt)
@@ -222,17 +242,21 @@ def numbered(bots: list[Bot]) -> list[Bot]:
     return found
 
 
+def cases_of(words: argparse.Namespace) -> tuple[list[Case], list[str]]:
+    """Returns the cases that the options name, and an error line for each lab that can't be used. Raises `Fault` if
+    there is no case."""
+    if words.labs:
+        return suites.of_folder(Path(words.labs), words.daemon, words.seeds)
+    return suites.of_suite(words.suite, words.daemon, words.seeds), []
+
+
 def grade(words: argparse.Namespace) -> int:
     """Tries each bot in each case, prints the results, and writes them to the files that the options name. With
     `--merge` tries nothing, and joins the results of parts. Returns the exit status. Raises `Fault` if the proved
     program isn't built, the options can't be used, or the folder for the cases can't be made."""
     require_built()
     bots = numbered([Bot.of(word) for word in words.bots])
-    faults: list[str] = []
-    if words.labs:
-        cases, faults = suites.of_folder(Path(words.labs), words.daemon, words.seeds)
-    else:
-        cases = suites.of_suite(words.suite, words.daemon, words.seeds)
+    cases, faults = cases_of(words)
     for fault in faults + [bot.fault for bot in bots if bot.fault]:
         print(f"class: {fault}", flush=True)
     if words.own_rule:
@@ -244,24 +268,30 @@ def grade(words: argparse.Namespace) -> int:
     top = new_folder(Path(words.into), Path("grade")) if runnable else Path()
     reap_orphans()
     seen_by = files_seen(runnable, words, top) if runnable else None
-    stop = catch_interrupts()
     results = [Result(bot.name, case.lab, case.daemon.spelled(), case.seed, False, bot.fault, started=False)
                for bot in bots for case in cases if bot.fault]
     written = Written(words, bots, cases, results)  # It adds each further result to `results`.
+    stop = catch_interrupts(written)
     try:
         print_and_write(results_of(runnable, cases, words, top, stop, seen_by), written)
     finally:
         stop.set()
         unwritten = written.write()
     end_strays()
-    print(graded.table(results))
-    if runnable:
-        print(f"records and pages of the cases: {top}")
-    for fault in unwritten:
-        print(f"class: {printable(fault)}")
+    print_end(results, top if runnable else None, unwritten)
     if len(results) < len(bots) * len(cases):
         print(f"interrupted: only {len(results)} of {len(bots) * len(cases)} cases were tried to their end")
         return FAILED
     if unwritten:
         return FAILED
     return 0 if not faults and all(result.passed for result in results) else WARNED
+
+
+def print_end(results: list[Result], top: Path | None, unwritten: list[str]) -> None:
+    """Prints the table of the results, the folder `top` with the files of the cases, if there is one, and the error
+    lines in `unwritten`."""
+    print(graded.table(results))
+    if top is not None:
+        print(f"records and pages of the cases: {top}")
+    for fault in unwritten:
+        print(f"class: {printable(fault)}")

@@ -1,5 +1,6 @@
 """The results of a grade: a table for people, and the file formats of autograders. A result says whether a bot, a
-student's program, passed a case."""
+student's program, passed a case. A case is a lab, a daemon (which decides when a step ends and who moves) and a
+seed."""
 from __future__ import annotations
 
 import json
@@ -19,12 +20,12 @@ ABOUT = ("bot", "lab", "daemon", "seed", "passed", "why", "moves", "denied")
 
 
 def case_name(result: Result) -> str:
-    """Returns the name of a result's case: its lab, its daemon and its seed, as in `Case.name`."""
+    """Returns the name of a result's case: its lab, its daemon and its seed. `Case.name` returns the same text."""
     return f"{result.lab} {result.daemon} {result.seed}"
 
 
 def as_json(results: list[Result]) -> str:
-    """Returns the results as a JSON list with an object for each case, which has the values named in ABOUT."""
+    """Returns the results as a JSON list. It has an object for each case, with the values named in ABOUT."""
     cases = [{key: value for key, value in asdict(result).items() if key in ABOUT} for result in results]
     return json.dumps(cases, indent=1, ensure_ascii=False) + "\n"
 

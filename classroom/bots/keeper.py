@@ -5,6 +5,9 @@ The keeper ends the program and all processes that it started, also those in oth
 program ends, uses too much memory or room for files, or consists of more than 64 processes. The keeper also ends the
 program if standard input ends, as it does when the process that started the keeper is gone. Then the keeper prints how
 the program ended: `ended STATUS` or `killed REASON`.
+
+A program is *kept apart* if it runs in namespaces of its own (`classroom.bots.apart`). Its plan then has a *world*,
+which says what it sees there.
 """
 from __future__ import annotations
 
@@ -79,7 +82,7 @@ def resident(process: int) -> int:
 
 def sizes_of_unnamed_files(process: int) -> dict[Identity, int]:
     """Returns the size in bytes of each unlinked file that a process has open, for example one from `memfd_create`, by
-    the identity of the file."""
+    the identity of the file. Leaves out files that can't be examined, and so returns none if the process has ended."""
     found = {}
     try:
         for each in os.scandir(f"/proc/{process}/fd"):
@@ -88,14 +91,15 @@ def sizes_of_unnamed_files(process: int) -> dict[Identity, int]:
             except OSError:
                 continue
             if stat.S_ISREG(it.st_mode) and not it.st_nlink:
-                found[identity(it)] = it.st_blocks * 512
+                found[identity(it)] = it.st_blocks * 512  # The system counts blocks of 512 bytes.
     except OSError:
         pass
     return found
 
 
 def shared_memory() -> int:
-    """Returns the size in bytes of all System V shared memory in this namespace."""
+    """Returns the size in bytes of all System V shared memory in this namespace, or 0 if the system doesn't report
+    it."""
     try:
         rows = Path("/proc/sysvipc/shm").read_text(encoding="ascii").splitlines()
         return sum(int(row.split()[rows[0].split().index("rss")]) for row in rows[1:])
@@ -123,8 +127,8 @@ def size_of_folder(folder: str) -> int:
 
 
 def size_of_root() -> int:
-    """Returns the size in bytes of all files in the root of this namespace, which a program that is kept apart has for
-    itself."""
+    """Returns the size in bytes of all files in the root of this namespace. A program that is kept apart has this root
+    for itself."""
     it = os.statvfs("/")
     return (it.f_blocks - it.f_bfree) * it.f_frsize
 
@@ -136,14 +140,15 @@ def end_all() -> None:
         try:
             while os.waitpid(-1, os.WNOHANG)[0]:
                 pass
-        except ChildProcessError:
+        except ChildProcessError:  # There are no descendants either, since an orphan becomes a child of this process.
             return
         time.sleep(PAUSE)
 
 
 def apply_limits(plan: Plan) -> None:
-    """Limits the processor time and the size of files of this process, which becomes the program, and begins a new
-    session. If the plan has no seconds, limits only core files. If the plan has a world, gives up all rights."""
+    """Limits the processor time and the size of files of this process, and begins a new session. The process becomes
+    the program afterwards. If the plan has no seconds, limits only core files. If the plan has a world, gives up all
+    rights. Raises `OSError` if the system refuses that."""
     resource.setrlimit(resource.RLIMIT_CORE, (0, 0))
     if plan.seconds:
         resource.setrlimit(resource.RLIMIT_CPU, (plan.seconds, plan.seconds + 1))
@@ -157,8 +162,8 @@ class Watch:
     """A measurement of a program's memory and files, against the limits of its plan."""
 
     def __init__(self, plan: Plan) -> None:
-        """Begins a measurement against the limits of `plan`. Notes which file has the program's output, the keeper's
-        standard error, since it doesn't count as memory."""
+        """Begins a measurement against the limits of `plan`. Notes which file has the program's output, because this
+        file doesn't count as memory. The output is the keeper's standard error."""
         self.plan = plan
         self.output = identity(os.fstat(2))  # the file of the output, which doesn't count as memory
         self.seldom = 0.0  # the time before which the folder isn't measured again
@@ -217,6 +222,7 @@ def keep(plan: Plan) -> str:
     STATUS` or `killed REASON`. If the program couldn't be started, the reason says why."""
     if plan.world:
         try:
+            # Only the first process of the new namespaces continues after this call. This process waits for its end.
             apart.enter(plan.world, plan.folder, FOLDER_MEGABYTES, plan.channel)
         except OSError as error:
             return f"killed {NO_NAMESPACES}{error.filename}: {error.strerror}"

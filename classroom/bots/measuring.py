@@ -2,7 +2,7 @@
 proved program.
 
 A run is made of *steps*. In each the daemon chooses some of the privileged nodes, those with an enabled rule, and they
-move at once.
+move at once. A *bench* is a process of the proved program that answers the requests of several runs, one after another.
 """
 from __future__ import annotations
 
@@ -50,7 +50,8 @@ class Row:
     stable: bool
 
     def exceeds_bounds(self) -> bool:
-        """Returns whether the run contradicts a proved bound, or isn't stable at its end."""
+        """Returns whether the run contradicts a proved bound, or isn't stable at its end. Raises `Fault` if the
+        program, which prints the bounds, isn't built."""
         most = bounds.of(self.nodes, self.links)
         return not self.stable or self.moves > most.moves or self.rounds > most.rounds
 
@@ -61,7 +62,7 @@ def drawn(setting: Setting, seed: int) -> labs.Lab:
     or if it has no network of this size."""
     chance = random.Random(f"{setting.family} {setting.nodes} {setting.start} {seed}")
     count = None if setting.family.startswith(SIZED) else setting.nodes
-    nodes, links = networks.family(setting.family, count, 0, chance)
+    nodes, links = networks.family(setting.family, count, students=0, chance=chance)
     made = network([labs.Node(node, []) for node in range(1, nodes + 1)], links)
     set_registers(made, setting.start, chance)
     return made
@@ -76,9 +77,9 @@ def partner_chooser(how: Daemon, chance: random.Random) -> Callable[[Sequence[in
 
 
 def run(bench: Bench, setting: Setting, made: labs.Lab, seed: int) -> Row:
-    """Runs the network of the lab `made` on a bench, under the daemon of `setting`, until it is stable, or until there
-    are more moves than the proved bound. `seed` determines all random choices. Returns the row with the run's counts.
-    Raises `Fault` if the program of the bench denies or refuses a request, or ends."""
+    """Runs the network of the lab `made` on a bench, under the daemon of `setting`. Ends when the network is stable, or
+    when there are more moves than the proved bound. `seed` determines all random choices. Returns the row with the
+    run's counts. Raises `Fault` if the program of the bench denies or refuses a request, or ends."""
     named = f"{setting.family} {setting.nodes} {setting.start} {seed} {setting.daemon.spelled()}"
     chance = random.Random(named)
     partner_of = partner_chooser(setting.daemon, chance)

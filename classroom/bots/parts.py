@@ -64,15 +64,16 @@ def results_in(file: Path) -> list[Result]:
 def joined(files: Iterable[Path], order: Sequence[Case]) -> tuple[list[Result], list[Case]]:
     """Returns the results of all files in the order of these cases, and the cases that no file has. Raises `Fault` if a
     case isn't one of this run, or if two files have different results of it."""
-    found: dict[Case, Result] = {}
+    found: dict[Case, tuple[Result, Path]] = {}
     for file in files:
         for result in results_in(file):
             case = result.bot, graded.case_name(result)
             if case not in order:
                 raise Fault(f"{file}: the case {' '.join(case)} isn't a case of this command: name the same bots and options as for the parts", FAILED)
-            if found.setdefault(case, result) != result:
-                raise Fault(f"{file}: the case {' '.join(case)} has a different result in another file: leave out one of the two files", FAILED)
-    return [found[case] for case in order if case in found], [case for case in order if case not in found]
+            first, where = found.setdefault(case, (result, file))
+            if first != result:
+                raise Fault(f"{file}: the case {' '.join(case)} has a different result in {where}: leave out one of the two files", FAILED)
+    return [found[case][0] for case in order if case in found], [case for case in order if case not in found]
 
 
 def merge(words: argparse.Namespace, order: Sequence[Case]) -> int:

@@ -2,8 +2,9 @@
 
 The replies to all lines are those of the proved program. The *house* plays the nodes of the students without a program.
 A granted move is *chosen* until a step applies it. The *daemon* decides when a step is closed, and which chosen moves
-it applies. The *report* is the program's reply that lists the privileged nodes, those with an enabled rule. In the
-functions, `asked` has the values of a request, and the next parameter those of its reply.
+it applies. The *report* is the proved program's reply that lists the privileged nodes, those with an enabled rule. The
+*relay* is the port to which students' programs connect, and the *adversary* searches for moves that make a run long. In
+the functions, `asked` has the values of a request, and the next parameter those of its reply.
 """
 from __future__ import annotations
 
@@ -115,7 +116,7 @@ class Playing:
         taken, and `Fault` if the proved program isn't built."""
         self.lab, self.programs, self.daemon = lab, programs, daemon
         self.chance, self.pace_chance = random.Random(f"{seed} daemon"), random.Random(f"{seed} house")
-        self.adversary = Adversary(seed, max)
+        self.adversary = Adversary(seed, max)  # `max`: of several possible partners, a student's client chooses the highest.
         self.heard = {name: Heard() for name in programs}
         self.hider = Hider({*lab.students.values(), lab.teacher[1]}, [*lab.students, lab.teacher[0]])
         self.names: dict[int, str] = {}  # the student who has greeted on each connection
@@ -193,10 +194,10 @@ class Playing:
         return is_refused
 
     def interfere(self, node: int, rule: str) -> None:
-        """Disturbs a program's request for a move of this node by this rule, just before it is answered. Does the first
-        of three things that is due: makes a new configuration (`overtakes`); sets the registers of the node, if the
-        house doesn't play it, so that another rule is enabled (`turns`); or lets the house, if it plays the node too,
-        ask for its move (`forestalls`). Does nothing if none of them is due."""
+        """Disturbs a program's request for a move of this node by this rule, just before it is answered. If `overtakes`
+        is set, makes a new configuration. Else, if `turns` is set and the house doesn't play the node, sets its
+        registers so that another rule is enabled. Else, if `forestalls` is set and the house plays the node too, lets
+        the house ask for its move, unless a move is chosen there. Otherwise does nothing."""
         if self.overtakes:
             self.overtakes -= 1
             self.next_configuration()
@@ -247,9 +248,9 @@ class Playing:
             self.on_no(NotGranted(who, told["refuse"], f"{text}; the line is {line[:SHOWN_LINE].decode(errors='backslashreplace')}", kind, sent))
 
     def note_row(self, who: str, sent: bytes, told: dict[str, Any]) -> None:
-        """Appends a row about a line to `rows`, which the programs' own pages show, if a move was granted to it, or if
-        it was denied or refused. Keys in the line are hidden. Appends nothing once there are KEPT_ROWS rows. `who` is
-        the student, and `sent` is the line, with the number of its connection before it. The last parameter has the
+        """Appends a row about a line to `rows`, which the programs' own pages show. Does so only if a move was granted,
+        or if the line was denied or refused, and not once there are KEPT_ROWS rows. Keys in the line are hidden. `who`
+        is the student, and `sent` is the line, with the number of its connection before it. The last parameter has the
         reply's values."""
         if told.get("ok") not in ("move", None) or len(self.rows) >= KEPT_ROWS:
             return
@@ -447,8 +448,8 @@ class Playing:
         return bool(self.report["stable"])
 
     def waiting(self) -> str:
-        """Returns a text about what the class waits for: the moves that can be granted, each with its rule, node and
-        owners, or if there are none the end of the step."""
+        """Returns a text about what the class waits for. These are the moves that can be granted, each with its rule,
+        node and owners. If there are none, it is the end of the step."""
         return ", ".join(f"{rule} at node {node} ({' and '.join(self.lab.owners(node))})"
                          for node, rule in self.report["privileged"] if node not in self.chosen) or "the step to be closed"
 

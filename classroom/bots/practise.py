@@ -20,7 +20,7 @@ from classroom.bots import explaining
 from classroom.bots.bots import Bot, RunningBot, end_in_words
 from classroom.bots.conduct import FLOODS
 from classroom.bots.playing import OWN_RULE, NotGranted, Playing, Step
-from classroom.bots.suites import HOUSE, TEACHER, key
+from classroom.bots.suites import HOUSE, TEACHER, new_key
 from classroom.client import RULES
 from classroom.core import lab as labs
 from classroom.core import bounds, limits, networks
@@ -65,8 +65,8 @@ def add_words(words: argparse.ArgumentParser) -> None:
 
 
 def own_nodes(word: str | None, identifiers: list[int], bots: int, chance: random.Random) -> list[int]:
-    """Returns the student's nodes: those that the argument `word` names, or two random nodes for each bot without it.
-    Raises `Fault` if the argument names no node or a node that isn't in `identifiers`."""
+    """Returns the student's nodes: those that the argument `word` names, or if it is None, two for each of `bots` bots,
+    which `chance` chooses. Raises `Fault` if the argument names no node or a node that isn't in `identifiers`."""
     if word is None:
         return sorted(chance.sample(identifiers, min(2 * bots, len(identifiers))))
     try:
@@ -79,29 +79,29 @@ def own_nodes(word: str | None, identifiers: list[int], bots: int, chance: rando
     return list(dict.fromkeys(nodes))
 
 
-def made(words: argparse.Namespace, names: list[str]) -> labs.Lab:
+def practice_lab(words: argparse.Namespace, names: list[str]) -> labs.Lab:
     """Returns the lab that the arguments describe. The students with these names get their nodes in turn, and the house
     gets the others. Raises `Fault` if a student would get no node, or if there is no such network or node."""
     chance = random.Random(f"practise {words.seed}")
     sized = words.family.startswith(("grid:", "random:"))
-    nodes, links = networks.family(words.family, words.nodes or (None if sized else 7), 0, chance)
+    nodes, links = networks.family(words.family, words.nodes or (None if sized else 7), students=0, chance=chance)
     identifiers = list(range(1, nodes + 1))
     own = own_nodes(words.node, identifiers, len(names), chance)
     if len(own) < len(names):
         raise Fault(f"{len(names)} BOTs need at least {len(names)} nodes: name more nodes by --node, or make the network larger by --nodes")
     owner = {node: names[index % len(names)] for index, node in enumerate(own)}
-    keys = {name: key() for name in [*names, HOUSE]}
+    keys = {name: new_key() for name in [*names, HOUSE]}
     dealt = [labs.Node(node, [owner.get(node, HOUSE)]) for node in identifiers]
     most = limits.allowed()
-    it = labs.Lab(most.events, most.sessions, (TEACHER, key()), keys, dealt, links)
+    it = labs.Lab(most.events, most.sessions, (TEACHER, new_key()), keys, dealt, links)
     set_registers(it, words.start, chance)
     return it
 
 
-def opened(lab: labs.Lab, names: list[str], words: argparse.Namespace) -> Playing:
-    """Returns the class of a lab, in which programs play the students in `names`, at its port. The port is that of the
-    arguments, or 4711 if they have none, or the next free one after it. If the arguments have a bot but no port, it is
-    any free one. Raises `Fault` if no port is free."""
+def open_class(lab: labs.Lab, names: list[str], words: argparse.Namespace) -> Playing:
+    """Opens the class of a lab at its port, and returns the class, in which programs play the students in `names`. The
+    port is that of the arguments, or 4711 if they have none, or the next free one after it. If the arguments have a bot
+    but no port, it is any free one. Raises `Fault` if no port is free."""
     def at(port: int) -> Playing | None:
         """Returns the class at that port, or None if the port is taken."""
         try:
@@ -193,7 +193,7 @@ class Practice:
                     self.tell(f"{name}: the bot {end_in_words(how, None)}")
                     self.kept.remove((name, kept))
             waiting = playing.waiting() + self.explain_silence()
-            gone = not self.kept and self.timeout is not None
+            gone = not self.kept and self.timeout is not None  # Without a time limit, the student starts the program.
             if self.timeout is not None and (idle > self.timeout or gone and idle > REST):
                 adds = "".join(explaining.of_waiting(playing, name) for name in playing.programs)
                 why = "no bot is running any longer" if gone else f"nothing has happened for {self.timeout:g} seconds"
@@ -236,9 +236,9 @@ def practise(words: argparse.Namespace) -> int:
         if bot.fault:
             raise Fault(bot.fault)
     names = ["you"] if len(bots) < 2 else [f"you-{number}" for number in range(1, len(bots) + 1)]
-    lab = made(words, names)
+    lab = practice_lab(words, names)
     folder = new_folder(Path(words.into), Path("practise"))
-    with contextlib.closing(ClassWithPrograms(opened(lab, names, words))) as it:
+    with contextlib.closing(ClassWithPrograms(open_class(lab, names, words))) as it:
         try:
             return play(it, bots, words, folder)
         except OSError as error:
@@ -288,7 +288,7 @@ def play(it: ClassWithPrograms, bots: list[Bot], words: argparse.Namespace, fold
 def served(practice: Practice, lab: labs.Lab, name: str, is_asked: bool) -> Iterator[None]:
     """Serves the page on which the student `name` of a lab plays by hand while the class of `practice` runs. Does
     nothing if `is_asked` isn't set. Prints the page's address. The student's key is after the `#` there, and browsers
-    don't send that part."""
+    don't send that part. Raises `Fault` if no port is free."""
     if not is_asked:
         yield
         return

@@ -44,7 +44,8 @@ class Relay:
         """Listens at a port, or at any free one if it is 0. `answer` returns the reply to a line of a connection. The
         third argument of `answer` says whether the line came after a pause. If `answer` returns no bytes, the
         connection is closed. `left` is called with the number of each connection that has ended. Connections get the
-        numbers in `numbers`. Raises `OSError` if the port is taken."""
+        numbers in `numbers`. Raises `OSError` if the port is taken, and `Fault` if the proved program isn't built,
+        since it prints the limit of a line."""
         self.answer, self.left = answer, left
         self.free = list(numbers)
         self.longest = limits.allowed().line
@@ -196,7 +197,7 @@ class Relay:
         """Stops listening, as if the server were gone. Doesn't close connections. `resume` listens again at the same
         port."""
         self.selector.unregister(self.listener)
-        self.listener.shutdown(socket.SHUT_RDWR)
+        self.listener.shutdown(socket.SHUT_RDWR)  # The socket stops listening, but keeps the port.
 
     def resume(self) -> None:
         """Listens at the port again after `pause`. Raises `OSError` if another program has the port by now."""

@@ -38,8 +38,8 @@ def contains_any(folder: Path, paths: Iterable[Path]) -> bool:
 
 
 def is_private(folder: Path) -> bool:
-    """Returns whether a folder may have other files than programs: the home, the folder of temporary files, and those
-    above them."""
+    """Returns whether a folder may have other files than programs: the home, its folder `.local`, the folder of
+    temporary files, and those above them."""
     home = Path.home()
     return contains_any(folder, (home, home / ".local", Path(tempfile.gettempdir()), home.resolve()))
 
@@ -59,7 +59,7 @@ def with_needed(file: Path) -> list[Path]:
 @cache
 def files_of(words: tuple[str, ...]) -> list[Path]:
     """Returns the existing files and folders among the words of a command, and the targets of their links. Only
-    absolute paths count. A word may also contain several paths, as in `-cp=/a:/b`."""
+    absolute paths count, without the root. A word may also contain several paths, as in `-cp=/a:/b`."""
     found: list[Path] = []
     for word in words:
         parts = word.translate({ord(each): "\n" for each in APART}).splitlines()

@@ -2,7 +2,8 @@
 
 A *case* is a lab that the bot plays, with a daemon, a seed, and troubles during the run. The daemon decides when a step
 ends and who moves. A *plan* describes cases that differ only in daemon and seed. The *house* plays the nodes that
-aren't the bot's.
+aren't the bot's. The proved program prints the limits of labs, so functions that make a case raise `Fault` if it isn't
+built.
 """
 from __future__ import annotations
 
@@ -105,17 +106,17 @@ FULL = SMALL + [
 SUITES = {"small": SMALL, "full": FULL}
 
 
-def key() -> str:
+def new_key() -> str:
     """Returns a new random key for a person of a lab."""
     return secrets.token_hex(16)
 
 
-def dealt(count: int, links: networks.Links, own: list[int], shared: list[int]) -> labs.Lab:
+def lab_for_bot(count: int, links: networks.Links, own: list[int], shared: list[int]) -> labs.Lab:
     """Returns a lab with the nodes 1 to `count` and these links. The bot owns the nodes in `own` alone and those in
     `shared` together with the house. The house owns all other nodes alone."""
     nodes = [labs.Node(node, [BOT] if node in own else [BOT, HOUSE] if node in shared else [HOUSE]) for node in range(1, count + 1)]
     most = limits.allowed()
-    return labs.Lab(most.events, most.sessions, (TEACHER, key()), {BOT: key(), HOUSE: key()}, nodes, links)
+    return labs.Lab(most.events, most.sessions, (TEACHER, new_key()), {BOT: new_key(), HOUSE: new_key()}, nodes, links)
 
 
 def choose_nodes(plan: Plan, count: int, links: networks.Links, chance: random.Random) -> list[int]:
@@ -144,9 +145,9 @@ def renamed(made: labs.Lab, named: tuple[int, ...]) -> labs.Lab:
 def planned(plan: Plan, seed: int, how: Daemon) -> Case:
     """Returns the case of a plan with this seed and this daemon."""
     chance = random.Random(f"{plan.name} {seed}")
-    count, links = networks.family(plan.family, plan.nodes, 0, chance)
+    count, links = networks.family(plan.family, plan.nodes, students=0, chance=chance)
     nodes = choose_nodes(plan, count, links, chance)
-    made = dealt(count, links, nodes[:plan.own], nodes[plan.own:])
+    made = lab_for_bot(count, links, nodes[:plan.own], nodes[plan.own:])
     set_registers(made, plan.start, chance)
     if plan.named:
         made = renamed(made, plan.named)
@@ -162,9 +163,9 @@ def own_lab(path: Path, seed: int, how: Daemon) -> Case:
     chance = random.Random(f"{path.stem} {seed}")
     alone = {name: [node.id for node in made.nodes if node.owners == [name]] for name in made.students}
     who = chance.choice([name for name, nodes in alone.items() if nodes] or [made.nodes[0].owners[0]])
-    students = {name: key() for name in made.students}
+    students = {name: new_key() for name in made.students}
     most = limits.allowed()
-    made = replace(made, events=most.events, sessions=most.sessions, teacher=(made.teacher[0], key()), students=students)
+    made = replace(made, events=most.events, sessions=most.sessions, teacher=(made.teacher[0], new_key()), students=students)
     return Case(path.stem, made, who, how, seed, (FAULT, CUT) if alone[who] else ())
 
 

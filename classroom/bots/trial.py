@@ -1,6 +1,7 @@
 """One case of a grade: runs a bot until the class is stable, or until something is wrong.
 
-A *bot* is a student's program. A *case* is a lab that the bot plays, with troubles during the run.
+A *bot* is a student's program. A *case* is a lab that the bot plays, with troubles during the run. A bot is *kept
+apart* if it runs in namespaces of its own, in which it sees few files (`classroom.bots.apart`).
 """
 from __future__ import annotations
 
@@ -44,8 +45,8 @@ def try_bot(bot: Bot, case: Case, limits: Limits, own: Path, folder: Path, stop:
 
 def run_attempt(attempt: Attempt, folder: Path) -> Result | None:
     """Runs a bot's attempt at a case to its end, closes it, and writes the files of `Attempt.write_evidence` into
-    `folder`. Returns the result, or None after an interrupt, which leaves no files. If the files can't be written, the
-    result's `unkept` says why."""
+    `folder`. Returns the result. After an interrupt, writes no files and returns None. If the files can't be written,
+    the result's `unkept` says why."""
     begun, case = time.monotonic(), attempt.case
     result = Result(attempt.bot.name, case.lab, case.daemon.spelled(), case.seed, False, "")
     try:

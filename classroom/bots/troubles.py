@@ -1,10 +1,11 @@
 """The run of a case: a class that becomes stable, and the troubles during the run. A bot meets each trouble in real
 classes too.
 
-Each trouble is a function here, whose `attempt` is the bot's attempt at the case. Most of them make a fault at a node of
-the bot afterwards: they set its registers so that it is privileged, and the bot has to move it. Then these functions
-run the class until it is stable again. All raise `Fails` if the bot does something wrong or is too late, and `Stopped`
-after an interrupt. The *number* is that of the present configuration, and a move is *stale* if it has an earlier one.
+Each trouble is a function here, whose `attempt` is the bot's attempt at the case. A node is *privileged* if a rule is
+enabled there. Most of these functions make a fault at a node of the bot, so that the node becomes privileged and the
+bot has to move it. Then they run the class until it is stable again. All raise `Fails` if the bot does something wrong
+or is too late, and `Stopped` after an interrupt. The *number* is that of the present configuration, and a move is
+*stale* if it has an earlier one.
 """
 from __future__ import annotations
 
@@ -67,9 +68,9 @@ def check_rest(attempt: Attempt, seconds: float) -> None:
 
 
 def hurt(attempt: Attempt, of: list[int] | None = None) -> int:
-    """Makes a fault at a random node of the bot, which sets its registers so that it is privileged, and returns the
-    node. The node is one of those in `of`, or if `of` is None one that the bot owns alone. Raises `Fails` if no
-    registers make one of these privileged."""
+    """Makes a fault at a random node of the bot, so that this node becomes privileged, and returns the node. The node
+    is one of those in `of`, or if `of` is None one that the bot owns alone. Raises `Fails` if no registers make one of
+    these privileged."""
     playing, nodes = attempt.playing, attempt.nodes_owned_alone() if of is None else of
     for node in attempt.chance.sample(nodes, len(nodes)):
         look = playing.program.ask(TEACHER, do="look", node=node)
@@ -197,8 +198,8 @@ def turn(attempt: Attempt) -> None:
 
 
 def drop(attempt: Attempt) -> None:
-    """Drops the bot's granted move by a fault at another node, which sets that node's registers to their present
-    values, and checks that the bot asks for the move again. Raises `Fails` if it doesn't."""
+    """Drops the bot's granted move by a fault at another node, and checks that the bot asks for the move again. The
+    fault sets the other node's registers to their present values. Raises `Fails` if the bot doesn't ask again."""
     playing = attempt.playing
     playing.is_held = True
     node = hurt(attempt)
@@ -221,6 +222,7 @@ def link_nodes(attempt: Attempt, node: int, other: int) -> None:
     playing.is_held = True
     playing.relink("link", node, other)
     for each in near_of(attempt, node):
+        # The old neighbours can't be seduced, because their m is true. So the marriage is the only rule that can be applied.
         playing.fault(each, node if each == other else None, each != other)
     playing.fault(node, None, False)
     until_granted(attempt, node, f"the teacher linked node {node} with node {other}, which points at node {node}, and the bot didn't ask for the "
@@ -374,10 +376,10 @@ def until_looked(attempt: Attempt, node: int) -> None:
 
 
 def draw_registers(attempt: Attempt, node: int, known: set[tuple[str | None, int, bool]]) -> None:
-    """Sets the registers of a node and its neighbours to drawn values, each by a fault, until the node is of a kind that
-    isn't in `known`, and adds the kind there. The kind has three parts: the node's enabled rule as the proved program
-    reports it, a number for its p, and its m. The number is 0 for null, 1 for a higher node, and -1 for a lower one.
-    After TRIES draws without a new kind, the last drawn values stay."""
+    """Sets the registers of a node and its neighbours to drawn values, each by a fault. Repeats this until the node is
+    of a kind that isn't in `known`, and adds the kind there. The kind has three parts: the node's enabled rule as the
+    proved program reports it, a number for its p, and its m. The number is 0 for null, 1 for a higher node, and -1 for
+    a lower one. After TRIES draws without a new kind, the last drawn values stay."""
     near = networks.neighbours([each.id for each in attempt.case.made.nodes], attempt.case.made.links)
     for _ in range(TRIES):
         for each in (*near[node], node):  # The node is the last, so p and m are its own after the loop.

@@ -148,7 +148,7 @@ class Answering:
             assert pipe is not None
             try:
                 pipe.close()
-            except OSError:
+            except OSError:  # The program has ended, so the rest of its input can't be written.
                 pass
         self.process.kill()
         self.process.wait()

@@ -37,7 +37,7 @@ def known(nodes: int, links: int) -> Bounds | None:
     """Returns the bounds for a network with this number of nodes and links, or None if the program isn't built
     or doesn't print them. A run continues without the bounds."""
     try:
-        host()
+        host()  # Raises `Fault` if the program isn't there any longer. `of` may return a result that it has kept.
         return of(nodes, links)
     except (Fault, OSError):
         return None

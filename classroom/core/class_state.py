@@ -5,9 +5,9 @@ a second and only if something has changed:
 
 - `configuration`: the number of the present configuration
 - `stable`: whether it is stable
-- `privileged`: a list of [node, rule]
+- `privileged`: a list of [node, rule], with each node that can move
 - `pairs`: a list of [node, node], the married pairs
-- `open`: how many open links the report has
+- `open`: how many open links there are, that is, links between two nodes that are in no pair
 - `moves`, `most`: the moves since the last fault, link or cut, and how many there can be at most (null if that isn't known)
 - `events`, `limit`: how many events the journal has, and how many it may have
 - `closing`: how steps are closed, as an argument of the command `daemon`

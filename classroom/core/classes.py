@@ -114,6 +114,7 @@ def make_folder(into: Path, networks: list[Network]) -> Path:
     """Makes the folder of a class of these networks below `into`, and returns it. The folder's `class.json` names this
     process as the one that holds the desks. The folder's name has the minute and the name of the class. Raises `Fault`
     if the folder can't be made."""
+    # `new_folder` takes the name of a folder from the file of a lab, so the name of the class is passed as such a file.
     folder = new_folder(into, Path(f"{name_of([Path(network.lab) for network in networks])}.toml"))
     Class(networks, Process.of(os.getpid())).write(folder)
     return folder

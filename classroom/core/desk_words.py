@@ -82,11 +82,11 @@ WORDS = {
         Button("set", "Set them", "fault #picked #p #m", "makes a fault: sets the registers of this node to these values"),
     ), is_edit=True),
     "shake": Word("K|all [SEED]", "set the registers of K random nodes, or of all, to random values; the same SEED makes the same choices", Action.SHAKE, (
-        Button("shake", "Shake", "shake #count", "sets the registers of some random nodes to random values; the number beside this button says of how many"),
+        Button("shake", "Shake", "shake #count", "sets the registers of some random nodes to random values; the number of nodes is beside this button"),
         Button("shake-all", "Shake all", "shake all", "sets the registers of all nodes to random values"),
     )),
     "break": Word("", "set all registers to values from which the run takes many moves", Action.BREAK,
-                  (Button("break", "Longest start", "break", "sets all registers to values from which the run takes many moves"),)),
+                  (Button("break", "Worst start", "break", "sets all registers to values from which the run takes many moves"),)),
     "link": Word("NODE NODE", "link two nodes", Action.ASK, is_edit=True, links=1),
     "cut": Word("NODE NODE", "remove the link between two nodes", Action.ASK, is_edit=True, links=-1),
     "release": Word("NODE", "drop the granted move of a node", Action.ASK, (
@@ -100,13 +100,14 @@ WORDS = {
     "every": Word("SECONDS", "from now on close a step each time this number of seconds has passed", Action.CLOSE_BY,
                   (Button("every", "by the clock", "every #seconds", "from now on closes a step each time this number of seconds has passed"),)),
     "when-idle": Word("SECONDS", "from now on close a step when no move was granted for this number of seconds", Action.CLOSE_BY,
-                      (Button("when-idle", "when idle", "when-idle #seconds", "from now on closes a step when no move was granted for so many seconds"),)),
+                      (Button("when-idle", "when idle", "when-idle #seconds",
+                              "from now on closes a step when no move was granted for this number of seconds"),)),
     "by-hand": Word("", "from now on close a step only when you type `close`", Action.CLOSE_BY, (
         Button("by-hand", "by hand", "by-hand", "from now on closes a step only when you press Close the step, or type `close`"),
     )),
     "daemon": Word("WORD", "from now on close steps by this daemon: central, synchronous, random:P, schedule, adversary, when-idle:SECONDS, "
                            "every:SECONDS or by-hand", Action.DAEMON),
-    "page": Word("", "give the page on which you can act a new address; the old address no longer works", Action.PAGE),
+    "page": Word("", "change the address of the page on which you can act; the old address no longer works", Action.PAGE),
     "key": Word("NAME", "give the student NAME a new key; the server restarts, and the class continues", Action.KEY),
     "help": Word("", "print this list of commands", Action.HELP),
     "end": Word("", "end the run", Action.END, (Button("end", "End the run …", "end", "asks you to confirm, and then ends the run", kind="button"),)),
@@ -124,6 +125,6 @@ def request(word: str, values: Sequence[str]) -> dict[str, Any]:
 
 
 def links_after(word: str) -> int:
-    """Returns by how much an event whose first word is `word` changes the number of links: 1 for a link, -1 for a cut,
-    and 0 for any other event."""
+    """Returns by how much an event changes the number of links. `word` is the first word of the event. The result is 1
+    for a link, -1 for a cut, and 0 for any other event."""
     return WORDS[word].links if word in WORDS else 0

@@ -151,18 +151,17 @@ def escaped(char: str) -> str:
 
 def text(lab: Lab) -> str:
     """Returns the text of a lab's file for a lab."""
-    quote = quoted
     lines = [f"events = {lab.events}", f"sessions = {lab.sessions}"]
     lines += ["links = [", *(f"  [{a}, {b}]," for a, b in lab.links), "]"] if lab.links else ["links = []"]
-    lines += ["", "[teacher]", f"name = {quote(lab.teacher[0])}", f"key = {quote(lab.teacher[1])}"]
+    lines += ["", "[teacher]", f"name = {quoted(lab.teacher[0])}", f"key = {quoted(lab.teacher[1])}"]
     for name, key in lab.students.items():
-        lines += ["", "[[student]]", f"name = {quote(name)}", f"key = {quote(key)}"]
+        lines += ["", "[[student]]", f"name = {quoted(name)}", f"key = {quoted(key)}"]
         person = lab.people.get(name)
-        lines += [f"written = {quote(person.written)}"] if person else []
-        lines += [f"id = {quote(person.id)}"] if person and person.id else []
+        lines += [f"written = {quoted(person.written)}"] if person else []
+        lines += [f"id = {quoted(person.id)}"] if person and person.id else []
     for node in lab.nodes:
         lines += ["", "[[node]]", f"id = {node.id}"]
-        owners = ", ".join(map(quote, node.owners))
+        owners = ", ".join(map(quoted, node.owners))
         lines.append(f"owner = {owners}" if len(node.owners) == 1 else f"owners = [{owners}]")
         lines += [f"p = {node.p}"] if node.p is not None else []
         lines += ["m = true"] if node.m else []

@@ -57,15 +57,15 @@ def parsed(text: str) -> Limits:
     for line in text.split("\n")[:-1]:
         it = LINE.fullmatch(line)
         if it is None or it["name"] in found or it["unit"] != UNIT_OF.get(it["name"], it["unit"]):
-            raise another(f"the unknown line {line!r}")
+            raise version_fault(f"the unknown line {line!r}")
         found[it["name"]] = int(it["most"])
     for name in UNIT_OF:
         if name not in found:
-            raise another(f"no line {name}")
+            raise version_fault(f"no line {name}")
     return Limits(**{name.replace("-", "_"): found[name] for name in UNIT_OF})
 
 
-def another(what: str) -> Fault:
+def version_fault(what: str) -> Fault:
     """Returns the fault to raise if the program is of another version than this code. `what` is a text about what that
     program prints, for the message."""
     return Fault(f"the program mml is of another version than ./class: `mml limits` prints {what}. Type `./mml build` to build the present version", FAILED)
@@ -77,7 +77,7 @@ def allowed() -> Limits:
     prints no limits or another form of them."""
     answer = host_call("limits")
     if answer.status != 0:
-        raise another("nothing")
+        raise version_fault("nothing")
     return parsed(answer.output)
 
 
@@ -85,7 +85,7 @@ def known() -> Limits | None:
     """Returns the limits, or None if the program isn't built or doesn't print them. A run continues without the
     limits."""
     try:
-        host()
+        host()  # Raises `Fault` if the program isn't there any longer. `allowed` may return a result that it has kept.
         return allowed()
     except (Fault, OSError):
         return None

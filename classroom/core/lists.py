@@ -137,7 +137,7 @@ def table(path: Path, text: str, words: argparse.Namespace) -> People:
 
 def columns_told(heads: list[str]) -> str:
     """Returns a text that lists the columns of a table with these heads."""
-    return f"the columns of this table are: {', '.join(heads)}" if any(heads) else "this table has no columns with heads"
+    return f"the columns of this table are: {', '.join(heads)}" if any(heads) else "the columns of this table have no heads"
 
 
 def column(path: Path, heads: list[str], asked: str | None, known: Iterable[str]) -> int | None:

@@ -145,7 +145,8 @@ def from_file(path: Path, count: int | None) -> tuple[list[int], Links]:
 
 def wrong_link(words: list[str], seen: dict[frozenset[int], int]) -> str | None:
     """Returns what is wrong with the words of a line with a link, or None if nothing is. `seen` has the links of
-    earlier lines, with the numbers of these lines."""
+    earlier lines, with the numbers of these lines. Raises `Fault` if the program isn't built, since it prints the
+    greatest number of a node."""
     if len(words) != 2 or not all(word.isascii() and word.isdecimal() for word in words):
         return "a link is written as the numbers of two nodes, such as 1 2"
     (a, b), most = map(int, words), limits.allowed().identifier

@@ -36,7 +36,7 @@ def read(path: Path, most: int) -> bytes:
     """Returns the bytes of a plain file. Raises `Fault` if the file isn't plain, can't be opened, or has more than
     `most` bytes."""
     with opened(path) as it:
-        is_large = os.fstat(it.fileno()).st_size > most
+        is_large = os.fstat(it.fileno()).st_size > most  # The file can still grow before it is read.
         content = b"" if is_large else it.read(most + 1) or b""
     if is_large or len(content) > most:
         raise Fault(f"{path}: this file is too large: it has more than {most} bytes", FAILED)

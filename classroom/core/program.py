@@ -53,26 +53,26 @@ def built() -> Path:
     release needs a newer C library."""
     if is_clone():
         return TOP / "crates/mml_host/out/mml_host"
-    if refusal := old_library():
-        raise Fault(refusal, FAILED)
+    if error := library_error():
+        raise Fault(error, FAILED)
     return TOP / "bin/mml"
 
 
 @cache
-def old_library() -> str:
+def library_error() -> str:
     """Returns an error line if the system has an older C library than this release needs, or one that isn't the GNU C
     library. Otherwise returns an empty text. Without this line, users would get the message of the system's loader,
     which doesn't help them. The script `mml` prints the same line."""
     proved = TOP / "PROVED"
     wanted = re.search(r"(?m)^# wants glibc ([0-9.]+)$", proved.read_text(encoding="utf-8")) if proved.exists() else None
-    here = library() if wanted else ""
+    here = library_version() if wanted else ""
     if wanted is None or numbers(here) >= numbers(wanted[1]):
         return ""
     return (f"this release needs the GNU C library {wanted[1]} or later, and this machine has {here or 'another one'}. "
             "Use a newer system; Debian 12, for example, has 2.36")
 
 
-def library() -> str:
+def library_version() -> str:
     """Returns the version of the GNU C library, or an empty text if the system has another C library."""
     try:
         told = os.confstr("CS_GNU_LIBC_VERSION")

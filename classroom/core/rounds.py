@@ -1,6 +1,7 @@
 """The recovery of a class: its moves, closes and rounds, beside the proved bounds. A *close* applies the chosen moves.
-A *round* ends when each node has had its turn. A node has had its turn if at some point in the round it wasn't
-privileged, or if a close applied its move (docs/SELF-STABILISATION.md)."""
+A node is *privileged* if a rule can be applied at it. A *round* ends when each node has had its turn. A node has had
+its turn if at some point in the round it wasn't privileged, or if a close applied its move
+(docs/SELF-STABILISATION.md)."""
 from __future__ import annotations
 
 from collections.abc import Collection, Iterable

@@ -54,7 +54,8 @@ class ShownNames:
 
     @staticmethod
     def of(lab: Lab, anonymous: bool) -> ShownNames:
-        """Returns the replacement of a lab's names: by numbers if `anonymous` is set, and otherwise by short names."""
+        """Returns the replacement of a lab's names: by numbers if `anonymous` is set, and otherwise by short names. The
+        house, a player for absent students, keeps its name."""
         students = lab.without_house()
         return ShownNames(numbers(students) if anonymous else display_names(students))
 

@@ -52,7 +52,8 @@ class RecordCounts:
 
     def add(self, other: RecordCounts) -> None:
         """Adds the numbers of a further record of the same run. The result is whole only if both records are.
-        Afterwards `all_of` has the names that are in that of both, or if one of them is None, those of the other."""
+        Afterwards `all_of` has only the names that both records have there. But if it is None in one of the two, it
+        becomes that of `other`, so that the first record can be added to a new `RecordCounts`."""
         for name, counts in other.denied.items():
             self.denied.setdefault(name, Counter()).update(counts)
         for node, owners in other.moves.items():

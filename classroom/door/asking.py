@@ -51,8 +51,8 @@ class RequestHead:
 
     @staticmethod
     def read(head: bytes) -> RequestHead:
-        """Returns the parsed head of a request. Raises `BadRequest` if the head can't be parsed or has another method
-        than METHODS."""
+        """Returns the parsed head of a request. Raises `BadRequest` if the head can't be parsed, has a header twice,
+        says that the body comes in chunks, or has another method than METHODS."""
         first, *rest = head.decode("latin-1").removesuffix("\r\n\r\n").split("\r\n")
         words = first.split(" ")
         if len(words) != 3 or not words[2].startswith("HTTP/1.") or not re.fullmatch(r"/[!-~]*", words[1]):
@@ -61,6 +61,7 @@ class RequestHead:
         if any(not colon or not re.fullmatch(r"[!#$%&'*+.^_`|~0-9A-Za-z-]+", name) for name, colon, _ in pairs):
             raise BadRequest("400 Bad Request", "this isn't a well-formed HTTP request")
         heads = {name.lower(): value.strip() for name, _, value in pairs}
+        # The page's server could understand such a head in another way than the door.
         if len(heads) != len(pairs) or "transfer-encoding" in heads:
             raise BadRequest("400 Bad Request", "this isn't a well-formed HTTP request")
         if words[0] not in METHODS:
@@ -76,7 +77,8 @@ class RequestHead:
         return int(size)
 
     def require_host(self, hosts: set[str], port: int) -> None:
-        """Raises `BadRequest` unless the head names one of these hosts, with this port."""
+        """Raises `BadRequest` unless the head names one of these hosts, with this port. Otherwise a page of another
+        site could send requests to the door under a name of that site."""
         host = self.heads.get("host", "").lower()
         if host not in {f"{each.lower()}:{port}" for each in hosts}:
             raise BadRequest("421 Misdirected Request", f"this door doesn't have the address {host!r}. Open the address on your slip")
@@ -103,8 +105,8 @@ class RequestHead:
 def page_of(asked: RequestHead, path: str, record: Record) -> tuple[int, str]:
     """Returns the port of the page for which `asked`, the head of a request, asks, and the path there. `path` is the
     path below the network's name, and `record` has the ports of the network's pages. A path with `look` and the right
-    token leads to the page to look at, and any other path to the page to play. No path leads to a page on which the
-    teacher acts. Raises `BadRequest` if there is no such page."""
+    token leads to the page to look at, and any other path to the page for playing by hand. No path leads to a page on
+    which the teacher acts. Raises `BadRequest` if there is no such page."""
     looks = re.fullmatch(r"/look(?P<path>/(?P<token>[A-Za-z0-9_-]+)/[a-z]*)", path)
     if looks is not None:
         is_known = record.page is not None and record.looks and looks["token"] == record.looks

@@ -39,6 +39,7 @@ class Place:
         argument."""
         address, _, port = word.rpartition(":")
         try:
+            # `door_of` wants a host before the port. The host `any` isn't used.
             return Place(*door_of(word)) if address else Place("", door_of(f"any:{port}")[1])
         except NoSlip:
             raise argparse.ArgumentTypeError(f"{word!r} isn't the address of a door. Write a port, such as 4700, or an address with a port, "
@@ -88,35 +89,39 @@ class OpenDoor:
                                     pass_fds=[number], start_new_session=True)
 
     def watch(self) -> None:
-        """Waits for the end of the door's process, and restarts it if it ends by itself, at most TIMES times. Prints a
-        line each time."""
-        for _ in range(TIMES):
-            if self.child.wait() == 0 or self.closes.is_set():
-                return self.listener.close()
+        """Waits for the end of the door's process, and then closes the listening socket. If the process has ended
+        unexpectedly, restarts it instead, at most TIMES times. Prints a line each time, and one if the door stays
+        closed."""
+        restarts = 0
+        while self.child.wait() != 0 and not self.closes.is_set():
+            if restarts == TIMES:
+                self.tell(f"the process of the door has ended too often, so the door stays closed. Students on other machines can't connect. "
+                          f"The file {self.folder / 'door.txt'} has the reason")
+                break
             self.tell(f"the process of the door has ended unexpectedly, {how_ended(self.child.returncode)}. The door is opened again")
             self.child = self.start_process()
-        self.child.wait()
-        self.tell(f"the process of the door has ended too often, so the door stays closed. Students on other machines can't connect. "
-                  f"The file {self.folder / 'door.txt'} has the reason")
+            restarts += 1
+        self.listener.close()
 
     def close(self) -> None:
         """Makes the door close as soon as the runs of all its networks have ended. Doesn't wait for that."""
         self.closes.set()
         self.listener.close()
         if self.child.poll() is None:
-            self.child.send_signal(signal.SIGTERM)
+            self.child.send_signal(signal.SIGTERM)  # The process then ends when no run continues (`Serving.hurry`).
 
 
 def open_door(place: Place, into: Path, file: Path, tell: Callable[[str], None]) -> OpenDoor:
     """Opens a door at `place` with the certificate in `file`, and returns it. The door's folder is made in `into`, the
     folder of the runs. The callback prints a line. Raises `Fault` if the certificate, the address or the folder can't
     be used."""
-    certificate.context(file)
+    certificate.context(file)  # Only checks the certificate. The process of the door loads it again.
     listener = listen(place)
     folder = (into / FOLDER.format(listener.getsockname()[1])).resolve()
     try:
         folder.mkdir(0o700, parents=True, exist_ok=True)
         forget(folder)
+        # The process of the door writes the data again, with its own number.
         DoorData(place.address, place.port, str(file.resolve()), Process(0, "")).write(folder)
     except OSError as error:
         listener.close()
@@ -133,7 +138,7 @@ def reopen(folder: Path, tell: Callable[[str], None]) -> OpenDoor | None:
         raise Fault(f"{folder}: the data of the door in this folder are missing or damaged. Open a door by --door [ADDRESS:]PORT", FAILED)
     if kept.process.lives():
         return None
-    certificate.context(Path(kept.certificate))
+    certificate.context(Path(kept.certificate))  # Only checks the certificate, as in `open_door`.
     return OpenDoor(folder, listen(Place(kept.address, kept.port)), tell)
 
 
@@ -157,8 +162,8 @@ def route_to(folder: Path, lab: Path, run: Path) -> None:
 
 
 def misled_labs(labs: Iterable[Path], file: Path, port: int) -> list[str]:
-    """Returns the files of those labs that have a slip with another door than this one. This door has the certificate
-    in `file` and this port."""
+    """Returns the files of those labs that have a slip with another door than this one, or with none. This door has the
+    certificate in `file` and this port. Raises `Fault` if the certificate can't be read."""
     known = certificate.fingerprint(file)
 
     def leads(slip: Slip, lab: Path) -> bool:

@@ -90,8 +90,9 @@ class Passing:
             return b""
 
     async def serve(self) -> None:
-        """Forwards the connection until it ends. If the connection's first byte is that of an HTTP method, the other
-        end is a page. Otherwise the other end is the students' port of the network that the handshake named."""
+        """Forwards the connection until it ends. If its first byte is a capital letter, as in an HTTP method, forwards
+        one request to the server of a page. Otherwise forwards all bytes to the students' port of the network that the
+        handshake named. Ends if no byte comes in time, or if that network has no run."""
         first = await self.first_bytes()
         if not first:
             return
@@ -134,7 +135,7 @@ class Passing:
 
     async def read_body(self, rest: bytes, size: int) -> bytes:
         """Returns the `size` bytes after the head of a request. `rest` has those that have come already. Raises
-        `EOFError` if it ends too early."""
+        `EOFError` if the other end sends fewer."""
         while len(rest) < size:
             rest += await self.read_more()
         return rest[:size]

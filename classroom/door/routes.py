@@ -151,8 +151,8 @@ class Routes:
 
     def named(self, name: str | None) -> str:
         """Returns the name of the network that a client asks for by `name`, the host name in its handshake. If `name`
-        is None or the name of a host, returns the only network, if there is just one. Otherwise returns an empty text,
-        also for the name of an unknown network, because its run may be about to begin."""
+        is None or the name of a host, returns the only network, if there is just one. Otherwise returns an empty text.
+        The name of an unknown network doesn't lead to the only network, since its own run may be about to begin."""
         if name not in self.networks:
             self.reload()
         if name in self.networks:

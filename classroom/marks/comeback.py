@@ -67,9 +67,9 @@ class Recount(Replay):
         """`lab` is that of the journal with these events, and `counted` counts its recoveries."""
         super().__init__(lab, events)
         self.counted = counted
-        self.before: set[int] = set()
-        self.moved: list[int] = []
-        self.rests: list[int] = []
+        self.before: set[int] = set()  # the nodes that were privileged in the last report
+        self.moved: list[int] = []  # the nodes that moved by the last event
+        self.rests: list[int] = []  # the places of the closes after which no node was privileged
 
     def ask(self, script: Script, event: Event | None, named: set[int]) -> None:
         """Appends the request for the report to the script if `event` made a configuration. If `event` is None, does so
@@ -106,7 +106,7 @@ class Recount(Replay):
 
 
 def recovery_line(lab: labs.Lab, events: list[Event]) -> str:
-    """Returns the line with the counts of the recovery that ends with the last of these events, which are the first
+    """Returns the line with the counts of the recovery that ends with the last event in `events`. They are the first
     events of a run of the lab. The counts are those of the proved program. Raises `Fault` if the program is too old to
     count rounds."""
     journal = "".join(f"{event.place} {event.at} {' '.join(event.words)}\n" for event in events)

@@ -44,8 +44,8 @@ Said = tuple[Vouched, Session, set[str]]  # a session with its record, and the n
 @dataclass(frozen=True)
 class Row:
     """One row of a history: a line with its reply, the end of a connection, or an event. `place` is the number of
-    events up to it, including an event itself. `denied` is the name of the denial or refusal in the reply. `event` is a
-    text about what else happened."""
+    events up to it, including an event itself. `seat` and `session` are 0 for an event. `denied` is the name of the
+    denial or refusal in the reply. `event` is a text about what else happened."""
 
     place: int
     seat: int = 0
@@ -249,8 +249,8 @@ def own_page(title: str, name: str, lab_file: Path, journal: Path, told: list[st
 
 
 def with_steps(lab: labs.Lab, journal: list[Event], name: str, lines: list[Row]) -> list[Row]:
-    """Returns the rows `lines`, which have what the student `name` sent, in one order with rows for the steps between
-    them, which are in `journal`."""
+    """Returns the rows `lines`, which have what the student `name` of `lab` sent, in one order with rows for the steps
+    between them. `journal` has the events of the run."""
     # An entry's place counts the events before it. If its reply has a place, the entry granted the next event.
     own = {row.place + 1 for row in lines if '"place":' in row.reply}
     return merged(lines, [*steps(lab, journal, name, own)])

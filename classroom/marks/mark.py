@@ -1,7 +1,8 @@
 """`./class mark`: the marks of each student from the journals of runs.
 
 A *journal* has the granted events of a run, and a *record* all lines and replies of its connections. A *rule* is a
-teacher's file that computes grades from marks. The *tally* is what the proved program counts in a journal.
+teacher's file that computes grades from marks. The *tally* is what the proved program counts in a journal. A
+*shared* node has two owners.
 """
 from __future__ import annotations
 
@@ -167,7 +168,8 @@ def recorded(journal: Path) -> list[Recorded]:
 
 def asked_in(part: Vouched) -> RecordCounts | None:
     """Returns the counts of the lines in the record `part`, or None if the record is refused. If the record's server
-    hasn't ended, the counts are marked as incomplete for all students."""
+    hasn't ended, the counts are marked as incomplete for all students. Raises `Fault` if the program can't count
+    them."""
     asked = tally.of(part.lab, part.journal, record=part.copy).asked if part.status == 0 else None
     if asked is None or part.has_ended:
         return asked
@@ -249,8 +251,8 @@ def as_json(runs: list[Run], rule: Rule | None = None) -> str:
 
 def mark(words: argparse.Namespace) -> int:
     """Prints the marks of all runs that the arguments name, in the chosen form, or only explains the columns. Returns
-    the exit status. The status is WARNED if a record is refused, if the class list lacks a student, or if the second
-    count differs. Raises `Fault` if a run can't be marked."""
+    the exit status. The status is WARNED if a record is refused, if the class list lacks a student, or if the plain
+    model gets other counts (`--second`). Raises `Fault` if a run can't be marked."""
     if words.columns:
         print(columns.listing(), end="")
         return 0

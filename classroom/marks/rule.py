@@ -120,7 +120,7 @@ def line_of(tokens: list[tuple[str, str]], number: int, known: Sequence[str]) ->
         raise Wrong("each line has the form NAME = EXPRESSION")
     name = tokens[0][1]
     if name in known or name in KEYWORDS or name in FUNCTIONS:
-        raise Wrong(f"{name} is already the name of a column, of an earlier line or of a word of rules; choose another name")
+        raise Wrong(f"{name} is already the name of a column or of an earlier line, or has a meaning in rules; choose another name")
     parser = Parser(tokens[2:], known)
     expression = parser.choice()
     if parser.tokens:
@@ -301,7 +301,8 @@ def conditional(condition: Expression, first: Expression, other: Expression) -> 
     """Returns the expression `first if condition else other`. Its evaluation raises `Wrong` if the value of the
     condition is a number or a text."""
     def value(row: Row) -> Value:
-        """Returns the value of the conditional expression for a row of marks, or None if its condition is unknown."""
+        """Returns the value of the conditional expression for a row of marks, or None if its condition is unknown.
+        Raises `Wrong` if the condition is a number or a text."""
         holds = truth(condition(row))
         return None if holds is None else first(row) if holds else other(row)
 
@@ -313,7 +314,8 @@ def logical(left: Expression, right: Expression, is_or: bool) -> Expression:
     expression is known if one side decides it. Its evaluation raises `Wrong` if the value of a side is a number or a
     text."""
     def value(row: Row) -> Value:
-        """Returns the value of the expression with `or` or `and` for a row of marks, or None if it is unknown."""
+        """Returns the value of the expression with `or` or `and` for a row of marks, or None if it is unknown. Raises
+        `Wrong` if a side is a number or a text."""
         sides = truth(left(row)), truth(right(row))
         return is_or if is_or in sides else None if None in sides else not is_or  # One true side decides `or`, and one false side `and`.
 
@@ -324,7 +326,8 @@ def negation(inner: Expression, is_negated: bool) -> Expression:
     """Returns the expression `not inner`, or if `is_negated` isn't set, an expression with the value of `inner`. Its
     evaluation raises `Wrong` if the value of `inner` is a number or a text."""
     def value(row: Row) -> Value:
-        """Returns the value of the expression or of its negation for a row of marks, or None if it is unknown."""
+        """Returns the value of the expression or of its negation for a row of marks, or None if it is unknown. Raises
+        `Wrong` if it is a number or a text."""
         holds = truth(inner(row))
         return None if holds is None else holds != is_negated
 

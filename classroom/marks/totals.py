@@ -85,9 +85,9 @@ Runs = list[Marked]
 
 
 def summed(runs: Runs) -> dict[str, tuple[Person, Total]]:
-    """Returns each person with the totals over all runs, by a text that identifies the person. Leaves out the house.
-    Two students of different labs are the same person if they have the same identifier, or without one the same name in
-    the lab."""
+    """Returns each person with the totals over all runs, by a text that identifies the person. Leaves out the house,
+    the player for absent students. Two students of different labs are the same person if they have the same identifier,
+    or without one the same name in the lab."""
     found: dict[str, tuple[Person, Total]] = {}
     for run in runs:
         lab, asked = run.lab, run.asked

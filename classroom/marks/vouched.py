@@ -61,7 +61,7 @@ class Vouched:
 def has_ended(run: Path) -> bool:
     """Returns whether the server of the run in a folder ended as it should: it then printed a line `done: ..`.
     If the run was resumed, the folder's output is that of several servers, and only the last one counts. Also returns
-    True if the folder has no output of a server."""
+    True if the folder has no output of a server. Raises `Fault` if the output can't be read."""
     output = run / "server.txt"
     if not output.is_file():
         return True
@@ -92,7 +92,7 @@ def granted_place(sign: bytes, reply: bytes) -> int:
     return place if isinstance(place, int) else 0
 
 
-def goes_on(run: Path) -> bool:
+def is_server_running(run: Path) -> bool:
     """Returns whether the server of the run in a folder is still running."""
     record = Record.read(run)  # This is the content of the file run.json, not a record of lines.
     return record is not None and record.server.lives()
@@ -129,8 +129,8 @@ def mark_incomplete(into: Path) -> None:
 def vouched(run: Path) -> Iterator[list[Vouched]]:
     """Yields the records of a run's folder with their verdicts, the oldest first. Each is verified with the journal up
     to the place at which the next record begins. The copies of the records are removed at the end of the block. Raises
-    `Fault` if the journal, or the beginning of a record, can't be read."""
-    is_whole, lives = has_ended(run), goes_on(run)
+    `Fault` if the journal, the server's output, or the beginning of a record can't be read."""
+    is_whole, lives = has_ended(run), is_server_running(run)
     lines = plain.read(run / "journal", limits.allowed().journal).split(b"\n")[:-1]
     records = kept(run)
     ends = [*map(begun, records[1:]), len(lines)]

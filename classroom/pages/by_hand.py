@@ -43,7 +43,7 @@ class PlayServer(Web):
         self.seats: dict[str, Seat] = {}
         self.names: dict[int, str] = {}  # the names of the students who play by hand, by the local port of their connection to the server
         self.turn = threading.Condition()
-        self.leaves = False
+        self.leaves = False  # whether all pages are to give up their seats
 
     @property
     def address(self) -> str:
@@ -71,7 +71,8 @@ class PlayServer(Web):
                 self.turn.notify_all()
 
     def seat(self, token: object) -> Seat | None:
-        """Returns the seat with this token, or None if no open page has it."""
+        """Returns the seat with this token, or None if no open page has it. The comparison takes the same time for all
+        wrong tokens of a length, since a token is secret."""
         with self.turn:
             return next((seat for known, seat in self.seats.items()
                          if isinstance(token, str) and hmac.compare_digest(known.encode(), token.encode(errors="replace"))), None)

@@ -136,7 +136,7 @@ class Drawing:
         length = math.dist(start, end) or 1.0
         along = ((end[0] - start[0]) / length, (end[1] - start[1]) / length)
         near, far = self.view.layout.radius, length - RING * self.view.layout.radius
-        return f"M{at(start, along, near)}L{at(start, along, far)}"
+        return f"M{point_along(start, along, near)}L{point_along(start, along, far)}"
 
     def node(self, node: int, owners: list[str], state: State, event: Event | None) -> str:
         """Returns the SVG element of a node with these owners in a state: its values, its disc, its label and its rule.
@@ -222,7 +222,7 @@ def drawing_of(lab: Lab, links: Iterable[tuple[int, int]] | None = None, field: 
 
 
 def married(node: int, state: State) -> bool:
-    """Returns whether a node is in one of the pairs of the state's report."""
+    """Returns whether a node is in one of the pairs of a state."""
     return any(node in pair for pair in state.pairs)
 
 
@@ -248,7 +248,7 @@ def true_or_false(value: bool) -> str:
     return "true" if value else "false"
 
 
-def at(start: Point, along: Point, far: float) -> str:
+def point_along(start: Point, along: Point, far: float) -> str:
     """Returns the point at the distance `far` from `start` in the direction of the unit vector `along`, as path
     data."""
     return f"{start[0] + along[0] * far:.1f} {start[1] + along[1] * far:.1f}"

@@ -1,6 +1,7 @@
 """A journal as frames: the program's replies when the events of a journal are asked for again. Every value in a frame
-was read from a reply. A *frame* is the state of the run after an event, and a *place* is the number of events up to
-it."""
+was read from a reply. A *frame* is the state of the run after an event, and a *place* is the number of events up to it.
+The replies to a *look* and to the request for the *report* have the values of a node and of the whole configuration.
+Long journals are replayed in *parts* (`classroom.pages.replay`)."""
 from __future__ import annotations
 
 from collections.abc import Iterator
@@ -119,9 +120,9 @@ class Looking(Replay):
 
 
 def frames_of(lab: Path, journal: Path) -> tuple[labs.Lab, Iterator[Frame]]:
-    """Returns the lab, and an iterator of the frames of a journal, which computes each frame when it is taken. All
-    frames share one state, which changes when the next frame is taken. Raises `Fault` if the audit refuses the journal.
-    The iterator raises `Fault` if the journal can't be replayed."""
+    """Returns the lab, and an iterator of the frames of a journal. The iterator computes each frame when it is taken.
+    All frames share one state, which changes when the next frame is taken. Raises `Fault` if the audit refuses the
+    journal. The iterator raises `Fault` if the journal can't be replayed."""
     answer = call("audit", lab, journal)
     if answer.status != 0:
         raise Fault(f"{journal}: {answer.error}", answer.status)

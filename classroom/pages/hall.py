@@ -1,7 +1,8 @@
 """The page for all networks of a class: a drawing of each, the number of its privileged nodes, the missing students, and
 alarms. A click opens the page of one network.
 
-The page has two addresses: one to look at, and one to act at. Below each of them the server answers
+The page has two addresses: one to look at, and one to act at. Each has a *token*, a random text in its path. Below each
+of them the server answers
 
 - `` (nothing more): the page, `hall.html` with `drawing.css`, `hall.css` and `hall.js` inside, and the positions of each
   network's nodes, as `Drawing.data` returns them

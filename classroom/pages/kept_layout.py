@@ -19,7 +19,7 @@ FARTHEST = 1e6  # the largest distance of a point from the middle
 
 def save(folder: Path, lab: Lab) -> None:
     """Writes the layout of a lab's network into the folder of its run, unless it needs no search or is there already.
-    If the disk is full, writes nothing and raises no error."""
+    Raises no error if the file can't be written, for example because the disk is full."""
     file, new = folder / LAYOUT, folder / f"{LAYOUT}.new"
     nodes, links = tuple(sorted(node.id for node in lab.nodes)), tuple(sorted(lab.links))
     if file.exists() or lay_out(nodes, links).kind != "general":

@@ -119,8 +119,8 @@ class Box:
         return sum(max(0.0, far) for far in (GAP - self.left, self.right - field.width + GAP, GAP - self.top, self.bottom - field.height + GAP))
 
     def depth_in_disc(self, middle: Point, radius: float) -> float:
-        """Returns how far the box reaches into the disc with this middle and radius, which is made larger by GAP, or 0
-        if it doesn't."""
+        """Returns how far the box reaches into the disc with this middle, whose radius is `radius` and GAP more.
+        Returns 0 if the box doesn't reach into it."""
         x, y = min(max(middle[0], self.left), self.right), min(max(middle[1], self.top), self.bottom)  # the box's nearest point
         return max(0.0, radius + GAP - math.dist((x, y), middle))
 

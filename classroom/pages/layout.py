@@ -92,5 +92,5 @@ def fitted(shape: Shape, field: Field, pads: Pads) -> Layout:
         node: (round(left + (x - middle_x) * across, 1), round(top + (y - middle_y) * down, 1))
         for node, (x, y) in shape.points.items()
     }
-    nearest = min((math.dist(a, b) for a, b in combinations(points.values(), 2)), default=200.0)
+    nearest = min((math.dist(a, b) for a, b in combinations(points.values(), 2)), default=200.0)  # 200 for a single node
     return Layout(shape.kind, field, points, nearest)

@@ -38,11 +38,11 @@ class Frames:
         """Begins without rows. The order of nodes is that of the drawing's lab."""
         self.drawing = drawing
         self.order = {node.id: index for index, node in enumerate(drawing.lab.nodes)}
-        self.links: list[Link] = []
-        self.index: dict[Link, int] = {}
+        self.links: list[Link] = []  # all links so far
+        self.index: dict[Link, int] = {}  # the index of each link in `links`
         self.rows: list[dict[str, Any]] = []
-        self.before: State | None = None
-        self.open: dict[int, tuple[int, int]] = {}
+        self.before: State | None = None  # the state of the last frame
+        self.open: dict[int, tuple[int, int]] = {}  # by the index of each open link: those of its witness and of the rule
 
     def add(self, frame: Frame, links: int) -> None:
         """Appends a row with the changes of a frame. `links` is the number of links in the network at that time."""
@@ -68,8 +68,8 @@ class Frames:
         self.before = state.copy()
 
     def registers(self, before: State, state: State) -> list[list[int]]:
-        """Returns three numbers for each node whose registers differ between two states: its index, the index of the
-        node that it points at or -1, and m as 0 or 1. The numbers are those in `state`, the later one."""
+        """Returns three numbers for each node whose registers in `state` aren't those in `before`, the earlier state.
+        They are its index, the index of the node that it points at in `state` or -1, and its m as 0 or 1."""
         if (before.pointers, before.ms) == (state.pointers, state.ms):
             return []
         return [
@@ -85,8 +85,8 @@ class Frames:
         return [[self.order[node], RULES.index(now.get(node, ""))] for node in sorted(changed)]
 
     def partners(self, before: list[Link], now: list[Link]) -> list[list[int]]:
-        """Returns the nodes that are in a pair in `before` and no longer in `now`, each with -1, and then those that
-        are in a new pair, each with its partner. All are indices."""
+        """Returns the nodes of the pairs that are in `before` and not in `now`, each with -1. After them come the nodes
+        of the pairs that are in `now` and not in `before`, each with its partner. All are indices."""
         gone, come = set(before) - set(now), set(now) - set(before)
         rows = [[self.order[node], -1] for pair in sorted(gone) for node in pair]
         return rows + [
@@ -94,8 +94,8 @@ class Frames:
         ]
 
     def changed_links(self, before: frozenset[Link], now: frozenset[Link]) -> list[list[int]]:
-        """Returns the index of each link that is in `now` and not in `before`, with 1, and of each that is in `before`
-        and not in `now`, with 0."""
+        """Returns the index of each link that is only in `now`, with 1, and of each link that is only in `before`, with
+        0."""
         return [[self.index_of(link), int(link in now)] for link in sorted(before ^ now)]
 
     def index_of(self, link: Link) -> int:
@@ -131,7 +131,7 @@ class Played:
     """The drawing and the rows of a run, for one or several pages."""
 
     def __init__(self, lab: Lab, frames: Iterable[Frame]) -> None:
-        """Reads all frames of the lab's run, of which the first is the beginning, and makes the drawing of the first
+        """Reads all frames of the lab's run, of which the first is the beginning. Makes the drawing of the first one,
         and the data with a row for each."""
         each = iter(frames)
         first = next(each)

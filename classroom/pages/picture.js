@@ -385,7 +385,7 @@ class Aside {
     this.find("most").hidden = row.bound === null;
     this.say("bound", String(row.bound));
     this.find("fill").style.width = row.bound === null ? "0" : 100 * row.since / row.bound + "%";
-    this.find("counts").title = `after event ${row.place}: ${counted(row.moves, "move")} in the whole run, ${counted(state.open, "open link")} now`;
+    this.find("counts").title = `after event ${row.place}: ${counted(row.moves, "move")} in the whole run, ${counted(state.open, "link")} between free nodes now`;
     this.announce(`step ${row.number}: ${told}, ${pairs}`);
   }
 

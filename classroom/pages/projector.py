@@ -2,7 +2,8 @@
 address has a random token in its path.
 
 Each page has a thread, which sends all changes since its last message. A slow page gets fewer and larger messages, and
-nothing waits for it.
+nothing waits for it. A *snapshot* has the state that the pages show at a moment, and how many events, lines and bars
+there are. A *bar* of the page's chart stands for a configuration.
 """
 from __future__ import annotations
 

@@ -60,7 +60,8 @@ class Script:
         self.size += len(line) + 1
 
     def cut(self, lines: int) -> None:
-        """Removes all lines after the first `lines`."""
+        """Removes all lines after the first `lines`. Doesn't update `size`, since a script is cut only when it is
+        complete."""
         del self.lines[lines:], self.takes[lines:]
 
 

@@ -49,7 +49,8 @@ class Seen(Drawing):
 
 def shown_part(name: str, looks: Looks) -> Lab:
     """Returns the part of the network that the looks of the student `name` show, as a lab. In it, the student owns the
-    nodes of the looks, other neighbours have the owner NEIGHBOUR, and nodes beyond that part have no owner."""
+    nodes of the looks, other neighbours have the owner NEIGHBOUR, and nodes beyond that part have no owner. A node
+    beyond it is one at which a neighbour points, although the student isn't shown it."""
     near = {each.node: each.p for look in looks.values() for each in look.near}
     beyond = {p for p in [*near.values(), *(look.p for look in looks.values())] if p is not None} - near.keys() - looks.keys()
     nodes = [Node(node, [name] if node in looks else [] if node in beyond else [NEIGHBOUR])

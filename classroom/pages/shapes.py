@@ -130,7 +130,7 @@ def layers(near: Near, aspect: float) -> Points:
     depths = steps_from(root, near)
     children = {node: [other for other in others if depths[other] > depths[node]] for node, others in near.items()}
     columns: dict[int, float] = {}
-    for leaf, node in enumerate(node for node in down(root, children) if not children[node]):
+    for leaf, node in enumerate(node for node in preorder(root, children) if not children[node]):
         columns[node] = float(leaf)
     for node in sorted(near, key=lambda node: -depths[node]):
         if children[node]:
@@ -140,7 +140,7 @@ def layers(near: Near, aspect: float) -> Points:
     return {node: (columns[node], depths[node] * apart) for node in near}
 
 
-def down(root: int, children: Near) -> Iterator[int]:
+def preorder(root: int, children: Near) -> Iterator[int]:
     """Yields the nodes of a tree from its root on, each before its children, and from left to right. `children` has the
     children of each node."""
     stack = [root]

@@ -1,4 +1,4 @@
-"""Several configurations of a run in one picture, in rows, each with its place."""
+"""Several configurations of a run in one picture, in rows. A *frame* is the state of the run after an event."""
 from __future__ import annotations
 
 import re

@@ -41,7 +41,7 @@ def searched(nodes: tuple[int, ...], links: tuple[tuple[int, int], ...]) -> dict
     """Returns a point for each node of the network with these nodes, at least two, and these links. Computes them
     unless they are among the last results, which are cached."""
     far = distances(nodes, links)
-    ring = [math.tau * index / len(nodes) for index in range(len(nodes))]
+    ring = [math.tau * index / len(nodes) for index in range(len(nodes))]  # an angle for each node, at equal distances
     first, second = classical_scaling(far, [list(map(math.cos, ring)), list(map(math.sin, ring))])
     points = [(x + APART * math.cos(turn), y + APART * math.sin(turn)) for x, y, turn in zip(first, second, ring)]
     pulls = [[*pulls_of(index, far)] for index in range(len(nodes))] if len(nodes) <= FEW_NODES else sparse_pulls(far)
@@ -200,8 +200,8 @@ def cross(a: Point, b: Point, c: Point, d: Point) -> bool:
 
 
 def side(a: Point, b: Point, c: Point) -> float:
-    """Returns 0 if c is on the line from a to b, a positive number for each point c on one side of it, and a negative
-    one on the other side."""
+    """Returns 0 if c is on the line through a and b. Otherwise the sign of the result says on which side of this line c
+    is."""
     return (b[0] - a[0]) * (c[1] - a[1]) - (b[1] - a[1]) * (c[0] - a[0])
 
 

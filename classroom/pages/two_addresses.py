@@ -72,7 +72,8 @@ class AtAddress(PageRequest):
 
     def asked(self) -> tuple[str, str]:
         """Returns the token in the request's path, and the path below it. Returns two empty texts if the token isn't
-        one of the server's."""
+        one of the server's. The comparison takes the same time for all wrong tokens of a length, since a token is
+        secret."""
         beginning, slash, rest = self.path[1:].partition("/")
         known = [token for token in (self.server.looks, self.server.acts) if hmac.compare_digest(beginning.encode(), token.encode())]
         return (known[0], rest) if known and slash else ("", "")

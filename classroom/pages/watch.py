@@ -1,6 +1,7 @@
 """The data of a live page: read at the desk when they change, and shared by any number of pages. The *desk* is the
 teacher's connection to the server. A *place* is the number of events so far, and a granted move is *chosen* until a
-step applies it."""
+step applies it. The *report* is the server's reply that lists the pairs and the *privileged* nodes, those with an
+enabled rule."""
 from __future__ import annotations
 
 import threading
@@ -108,9 +109,9 @@ class Watch:
         and `closing` says how steps are closed."""
         self.client = client
         self.state = State(0, 0, frozenset(map(labs.ordered, lab.links)))
-        self.named = {node.id for node in lab.nodes}
-        self.granted: set[int] = set()
-        self.events: list[Event] = []
+        self.named = {node.id for node in lab.nodes}  # the nodes that may have changed since the last look
+        self.granted: set[int] = set()  # the nodes with a move that the next configuration applies or drops
+        self.events: list[Event] = []  # the events that weren't published yet
         self.look()
         self.take_report(report)
         self.present = Present(self.state.copy(), closing)
@@ -150,8 +151,8 @@ class Watch:
 
     def wait_for_server(self) -> None:
         """Waits until the server has applied the last line of the journal, which is written before the event takes
-        effect. Sends a request for this, to link a node to itself, which is always denied and is answered only after
-        the event."""
+        effect. For this, asks the server to link a node to itself. This request is always denied, and is answered only
+        after the event."""
         node = min(self.state.pointers)
         try:
             self.client.link(node, node)
@@ -159,8 +160,8 @@ class Watch:
             pass
 
     def look(self) -> set[int]:
-        """Looks at the nodes that events have named, and updates the state. Returns the set of numbers of the
-        configurations in which the looks were answered, which is more than one if the run has gone on meanwhile."""
+        """Looks at the nodes that events have named, and updates the state. Returns the numbers of the configurations
+        in which the looks were answered. These are several if the run has gone on meanwhile."""
         state, numbers = self.state, set()
         for node in sorted(self.named):
             look = self.client.look(node)

@@ -44,17 +44,17 @@ def addressed(line: str, names: Sequence[str]) -> tuple[list[int], str]:
     words = line.split()
     before = re.fullmatch(r"\s*(\S+?)\s*:\s*(.*?)\s*", line)
     if before and before[1] not in WORDS:  # In `every:5`, the word before the colon is a command and not a network.
-        return wanted(before[1], names), before[2]
+        return require_target(before[1], names), before[2]
     first = words[0] if words else ""
     # A first word that begins with a digit is meant as a network, so a wrong number raises an error.
     if first not in WORDS and (re.match(r"\d", first) or target(first, names) is not None):
-        return wanted(first, names), " ".join(words[1:])
+        return require_target(first, names), " ".join(words[1:])
     if len(words) == 2 and first in BARE:
-        return wanted(words[1], names), first
-    return wanted(EVERY, names), line.strip()
+        return require_target(words[1], names), first
+    return require_target(EVERY, names), line.strip()
 
 
-def wanted(word: str, names: Sequence[str]) -> list[int]:
+def require_target(word: str, names: Sequence[str]) -> list[int]:
     """Returns the indices of the networks that `word` names. `names` are the names of all networks, in their order.
     Raises `ValueError` if the word names none."""
     found = target(word, names)

@@ -2,7 +2,8 @@
 *adversary*, which searches ahead.
 
 A *close* ends a step. A granted move is *chosen* until a close applies it, and a *daemon* decides which chosen moves a
-close applies. The adversary has a process of the proved program of its own, a *bench*, on which it tries moves.
+close applies. A *privileged* node has an enabled rule, and a *report* is a reply that lists these nodes. The adversary
+has a process of the proved program of its own, a *bench*, on which it tries moves.
 """
 from __future__ import annotations
 
@@ -38,17 +39,18 @@ class Adversary:
         If it chooses the lowest, runs are longest. A student's client chooses the highest."""
         self.chance, self.partner_of = random.Random(f"{seed} adversary"), partner_of
         self.bench: Bench | None = None
-        self.registers: dict[int, tuple[int | None, bool]] = {}
+        self.registers: dict[int, tuple[int | None, bool]] = {}  # p and m of each node before the moves that are tried
 
     def search_of(self, how: Daemon, rules: Mapping[int, str], seen: Callable[[], labs.Lab]) -> Search:
-        """Returns a function that chooses among nodes that may move, as the daemon `how` does, which is the schedule or
-        the adversary. `rules` has the rule of each node's move, and `seen` returns the network with its present
-        registers. The function raises `Fault` if the program of the bench can't be asked."""
+        """Returns a function that chooses among nodes that may move: by the schedule if `how` is the schedule, and
+        otherwise by the search of the adversary. Other daemons don't call it. `rules` has the rule of each node's move,
+        and `seen` returns the network with its present registers. The function raises `Fault` if the program of the
+        bench can't be asked."""
         return lambda nodes: [scheduled(rules, nodes)] if how.kind == "schedule" else self.choose(seen(), nodes)
 
     def choose(self, made: labs.Lab, chosen: Sequence[int]) -> list[int]:
         """Returns the nodes whose moves a close is to apply: one of those in `chosen`, or all of them. Tries some of
-        these choices on the bench, and returns the one after which the search finds the most moves. Nodes of which no
+        these choices on the bench, and returns the one after which the search finds the most moves. Nodes at which no
         rule is enabled on the bench are left out. `made` is the network with its present registers."""
         if len(chosen) < 2:
             return list(chosen)
@@ -60,7 +62,7 @@ class Adversary:
             chosen = [node for node in chosen if node in rules]
         if not chosen:
             return []
-        ways = [[node] for node in self.some(rules, chosen)] + [list(chosen)]
+        ways = [[node] for node in self.candidates(rules, chosen)] + [list(chosen)]
         steps = max(1, STEPS // len(made.nodes) // len(ways))
         worth = [self.value_of(bench, report, way, steps) for way in ways]
         return ways[worth.index(max(worth))]
@@ -73,7 +75,7 @@ class Adversary:
             self.bench = Bench(made)
         return self.bench
 
-    def some(self, rules: Mapping[int, str], nodes: Sequence[int]) -> list[int]:
+    def candidates(self, rules: Mapping[int, str], nodes: Sequence[int]) -> list[int]:
         """Returns at most FIRST of these nodes: the one that is next by the schedule, and others, which are drawn at
         random if they are many. `rules` has the enabled rule of each node."""
         first = scheduled(rules, nodes)

@@ -32,7 +32,7 @@ def report_line(report: Report) -> str:
         "pairs": [f"{a}-{b}" for a, b in report.pairs],
         "free nodes": [str(node) for node in report.free],
         "privileged nodes": [f"{node} ({rule})" for node, rule in report.privileged],
-        "open links": [f"{a}-{b} (node {node} can move by {rule})" for a, b, node, rule in report.open],
+        "links between free nodes": [f"{a}-{b} (node {node} can move by {rule})" for a, b, node, rule in report.open],
     }
     told = "".join(f"; {name}: {', '.join(them)}" for name, them in lists.items() if them)
     return f"configuration {report.at} is {'' if report.stable else 'not '}stable{told}"
@@ -52,7 +52,7 @@ class Announcer:
         self.over = ""  # `full` or `journal` once nothing more is granted for this reason
         # Returns the server's text about a journal that can't be written, or an empty text, as `str` does until the desk is open.
         self.lost_journal: Callable[[], str] = str
-        self.comeback = Comeback(lab)
+        self.comeback = Comeback(lab)  # the counts of the present recovery, and the present links
         self.edits: list[Event] = []  # the faults, links and cuts that weren't printed yet
 
     def announce_resumed(self) -> None:

@@ -14,7 +14,7 @@ from classroom.core.folders import Record, of_folder
 from classroom.core.program import CLASS, Fault
 from classroom.run import class_again
 from classroom.run.clock import end_of
-from classroom.run.closing import kept
+from classroom.run.closing import kept_daemon
 from classroom.run.holding import Running, to_the_end
 from classroom.run.run import add_desk_words, check_stand_in
 from classroom.run.server import Server
@@ -58,13 +58,14 @@ def attach(words: argparse.Namespace) -> int:
     lab_file, _ = of_folder(folder)
     record = Record.read(folder)
     if record is None or not record.server.lives():
-        raise Fault(f"{folder}: the server of this run has ended. To continue the run, type: {CLASS} run --resume {folder}")
+        again = " --again" if record is not None and record.ended else ""
+        raise Fault(f"{folder}: the server of this run has ended. To continue the run, type: {CLASS} run --resume {folder}{again}")
     lab = labs.read(lab_file)
     check_stand_in(words, lab, lab_file)
     wait_for_desk(folder, record)
-    run = Running(folder, Path(record.lab), lab, words.close or kept(folder, record), words.until or record.until,
+    run = Running(folder, Path(record.lab), lab, words.close or kept_daemon(folder, record), words.until or record.until,
                   words.page or record.page, words.typed, Teller(folder), words.play or record.play,
-                  goes_on=True, stand_in=words.stand_in or record.stand_in, looks=record.looks, played=record.played,
+                  is_continued=True, stand_in=words.stand_in or record.stand_in, looks=record.looks, played=record.played,
                   ends=end_of(words.ends, record.ends), anonymous=words.anonymous or record.anonymous,
                   door=record.door)
     it = Server(record.server, record.port, record.desk, hosted=True, output=folder / "server.txt")

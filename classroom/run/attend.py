@@ -25,6 +25,7 @@ from classroom.run.closing import Closing
 from classroom.run.desk import Desk
 from classroom.run.server import Server
 from classroom.run.striking import Striker
+from classroom.run.taking import Left
 from classroom.run.typed import HUNG, LEAVE, NOW, Typed
 
 TICK = 0.1
@@ -68,7 +69,7 @@ def limit_of(process: int) -> int | None:
 def limit_line(left: int, folder: Path) -> tuple[str, str]:
     """Returns the state of a journal that may grow by `left` bytes (`little`, `full` or an empty text), and the line to
     print about it. `folder` is that of the run."""
-    how = f"End the run, remove this limit, and continue by {CLASS} run --resume {folder}"
+    how = f"End the run, remove this limit, and continue by {CLASS} run --resume {folder} --again"
     if left >= LITTLE:
         return "", ""
     if left >= LINE:
@@ -88,8 +89,8 @@ def unlinked_file(folder: Path) -> IO[bytes] | None:
 
 
 class DiskRoom:
-    """Checks whether there is room for a journal's lines: on the disk, and by the limit on the size of the server's
-    files."""
+    """A repeated check whether there is room for a journal's lines: on the disk, and by the limit on the size of the
+    server's files."""
 
     def __init__(self, folder: Path, server: int | None = None) -> None:
         """`folder` is that of the run. `server` is the number of the server's process, or None if the limit on the size
@@ -142,10 +143,12 @@ class DiskRoom:
         return [line] if line else [AGAIN_ROOM] if before == "full" else []
 
     def limit_news(self) -> list[str]:
-        """Returns a line if the limit on the size of files now leaves little room for the journal, or none, and the
-        last check found another state. Returns an empty list otherwise."""
+        """Checks how much the journal may still grow under the server's limit on the size of files (ulimit -f).
+        Returns a line to print if there is little or no room left, and if the check before this one had a different
+        result (enough, little or none). Otherwise returns an empty list."""
         limit = limit_of(self.server) if self.server is not None else None
         journal = self.folder / "journal"
+        # Without a limit there is room enough, and LITTLE bytes are enough.
         left = LITTLE if limit is None or not journal.exists() else limit - journal.stat().st_size
         kind, line = limit_line(left, self.folder)
         before, self.told_limit = self.told_limit, kind
@@ -199,7 +202,7 @@ def run_typed(desk: Desk, line: str | None, hung: Callable[[], None]) -> str:
     """Runs a line that was typed at the desk, and does nothing if `line` is None. Calls `hung` if the line says that
     the terminal is closed. Returns the reason if the line ends the run, `end` or `left`, and an empty text otherwise.
     `left` means that another process takes over the desk. While the desk has no connection, only `end` is run, and for
-    other lines the reason is printed."""
+    other lines the reason is printed. Raises `Closed` if the desk's connection has ended."""
     if line is None:
         return ""
     if line == HUNG:
@@ -212,7 +215,10 @@ def run_typed(desk: Desk, line: str | None, hung: Callable[[], None]) -> str:
     if desk.lost:
         desk.tell(f"not done, because the desk has no connection to the server now: {desk.lost}")
         return ""
-    return "" if desk.command(line) else "end"
+    try:
+        return "" if desk.command(line) else "end"
+    except Left:
+        return "left"
 
 
 def attend(desk: Desk, it: Server, until_stable: bool, typed: Typed, room: DiskRoom, hung: Callable[[], None]) -> str:

@@ -1,5 +1,6 @@
 """A class of several networks whose desk has ended: `attach` takes over the desks of its networks, and `run --resume`
-also starts the servers that have ended. The *desk* of a network is the teacher's connection to its server."""
+also starts the servers that have ended. The *desk* of a network is the teacher's connection to its server. A network is
+*down* if its server or its desk is gone, and its *alarm* is the text about that."""
 from __future__ import annotations
 
 import argparse

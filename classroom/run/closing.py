@@ -20,7 +20,7 @@ def closing(word: str) -> Closing:
     return Daemon.of(word, SECONDS)
 
 
-def kept(folder: Path, record: Record) -> Closing:
+def kept_daemon(folder: Path, record: Record) -> Closing:
     """Returns the daemon of a continuing run. `record` has the values of the file `run.json` in the run's folder.
     Raises `Fault` if its value `close` names no daemon."""
     try:

@@ -59,14 +59,14 @@ class Connected:
         end. If `tells` is false, only full seats are reported, since the run's record shows who connects."""
         self.port, self.seats, self.but, self.tells = port, seats, but, tells
         self.names = {} if names is None else names
-        self.known: dict[int, str] = {}
-        self.full = False
-        self.due = 0.0
+        self.known: dict[int, str] = {}  # the text of each client that is connected, by the port of the client's end
+        self.full = False  # whether a line has said that no seat is free
+        self.due = 0.0  # the time of the next check
 
     def news(self) -> list[str]:
-        """Returns lines about the connections that began or ended since the last check, and a line when all seats are
-        taken for the first time. Returns none if the last check is less than a second ago, or if the system reports no
-        sockets."""
+        """Returns lines about the connections that began or ended since the last check, and a line when newcomers can't
+        connect for the first time. Returns none if the last check is less than a second ago, or if the system reports
+        no sockets."""
         now = time.monotonic()
         if now < self.due:
             return []
@@ -79,7 +79,8 @@ class Connected:
     def look(self) -> list[Row]:
         """Returns the system's sockets. Reads them a few times if the list has a server's end without its client's end,
         because the system doesn't list all sockets at the same moment. The list never has the ends of clients on other
-        machines. Raises `OSError` if the system doesn't report its sockets."""
+        machines. If only full seats are reported, reads them once. Raises `OSError` if the system doesn't report its
+        sockets."""
         for _ in range(READINGS):
             found = list(rows())
             if not self.tells or self.client_ports(found) <= self.client_sockets(found).keys() | self.known.keys():

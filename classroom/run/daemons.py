@@ -1,5 +1,6 @@
 """Daemons, which decide when a step is closed, and which of the chosen moves it applies. A *chosen* move was granted
-and waits for the close, and a *privileged* node is one that can move."""
+and waits for the close, and a *privileged* node is one that can move. The *schedule* and the *adversary* are daemons
+that make a run long (`classroom.run.adversary`)."""
 from __future__ import annotations
 
 import argparse
@@ -69,8 +70,8 @@ class Sight:
 
 
 def heads(nodes: Sequence[int], probability: float, chance: random.Random) -> list[int]:
-    """Tosses a coin for each node, which shows heads with this probability. Returns the nodes with heads, or one random
-    node if no coin shows heads."""
+    """Tosses a coin for each node. A coin shows heads with this probability. Returns the nodes with heads, or one
+    random node if no coin shows heads."""
     found = [node for node in nodes if chance.random() < probability]
     return found or [chance.choice(list(nodes))]
 

@@ -22,7 +22,7 @@ SIGNALS = (signal.SIGINT, signal.SIGTERM)
 
 def start_bots(lab: labs.Lab, port: int, room: Path) -> list[subprocess.Popen[bytes]]:
     """Writes the slips of a lab into the folder `slips` in `room`, and starts a bot for each student, which connects to
-    the port. Returns the processes."""
+    the port. Returns the processes. Raises `Fault` if a slip can't be written."""
     slips.write_all(lab, Way(port, "demo"), room / "slips")
     return [
         subprocess.Popen([sys.executable, TOP / "examples/bot.py", room / "slips" / f"{name}.slip"],

@@ -43,7 +43,8 @@ class Desk:
 
     def __init__(self, lab: labs.Lab, journal: Path, client: Client, how: Closing, tell: Callable[[str], None]) -> None:
         """`lab` is the lab of the run, `journal` the journal's file in the run's folder, `client` the desk's
-        connection, and `how` the daemon that closes steps. The callback prints a line."""
+        connection, and `how` the daemon that closes steps. The callback prints a line. Raises `OSError` if the journal
+        can't be opened, and `Closed` or `Refused` if the server sends no report."""
         self.lab, self.tell, self.closing = lab, tell, how
         self.known = Follower(lab, journal, client)
         self.announcer = Announcer(lab, journal.parent, self.known, tell)
@@ -102,8 +103,8 @@ class Desk:
         self.lost, self.known.is_old = "", True
 
     def give_up_connection(self, error: Closed) -> None:
-        """Closes the desk's connection, which has failed by this error or on which a reply is late, and prints that.
-        `reconnect` makes another one."""
+        """Closes the desk's connection, because it has failed by this error or a reply on it is late. Prints that.
+        `reconnect` makes another connection."""
         self.lost = str(error)
         self.client.hang_up()
         self.tell(f"the desk has lost its connection to the server, and tries to connect again: {error}")
@@ -146,7 +147,7 @@ class Desk:
     def stand_in(self) -> None:
         """Makes the house ask for moves that the class waits for. Under the central daemon, which applies one move in a
         step, the house asks for one, and only if no move is chosen. Does nothing without a house, while the report is
-        old, or once nothing more is granted. Without a record of who connects, takes it that a student has come."""
+        old, or once nothing more is granted. Without a record of who connects, assumes that a student has come."""
         if self.house is None or self.known.is_old or self.announcer.over:
             return
         self.house.student_came = self.heard is None or self.heard.came
@@ -156,8 +157,8 @@ class Desk:
 
     def close(self) -> None:
         """Closes a step. If no move is chosen, prints for whom the class waits. If no more events are granted, ends the
-        run. Ignores the refusal `memory`, since the close is asked for again. Raises `Denied` if the close is denied for
-        another reason than that no move is chosen."""
+        run. Ignores the refusal `memory`, since the close is asked for again. Raises `Denied` if the close is denied
+        for another reason than that no move is chosen."""
         try:
             self.client.close()
         except Denied as denied:
@@ -176,7 +177,8 @@ class Desk:
 
     def command(self, line: str) -> bool:
         """Runs a line that the teacher has typed. Returns false if it ends the run. Prints what is wrong if the line
-        can't be run. Raises `Closed` if the desk's connection has ended."""
+        can't be run. Raises `Closed` if the desk's connection has ended. Raises `Left` if another process wants the
+        desk while the command `key` connects to it again."""
         if line == EOF:
             self.tell("to end the run, type `end`")
             return True
@@ -262,7 +264,8 @@ class Desk:
     def renew_key(self, name: str) -> None:
         """Gives the student `name` another key. For that the server is restarted, so all programs have to connect
         again. Raises `ValueError` if the run was started with --serve or there is no such student, and `Fault` if the
-        server can't be restarted."""
+        server can't be restarted. Raises `Closed`, `Denied` or `Left` if the desk can't be connected to the new
+        server."""
         if self.another_key is None:
             raise ValueError("the key can't be changed, because this run was started with --serve. End the run, and change the key by `class key`")
         self.another_key(name)
@@ -282,8 +285,8 @@ class Desk:
         self.set_all(shaken(self.nodes(), self.announcer.comeback.links, count, int(seed) if seed is not None else None))
 
     def set_all(self, registers: list[Registers]) -> None:
-        """Sets the registers of several nodes, by one fault after another, and prints how many they are. Raises `Denied`
-        or `Refused` if the server doesn't grant a fault. The faults before that one stay."""
+        """Sets the registers of several nodes, by one fault after another, and prints how many they are. Raises
+        `Denied` or `Refused` if the server doesn't grant a fault. The faults before that one stay."""
         for node, p, m in registers:
             self.client.fault(node, p, m)
         self.tell(f"the registers of {plural(len(registers), 'node')} were set")

@@ -56,14 +56,14 @@ class Follower:
         self.client = client
         self.journal = journal.open("rb")
         self.book = Book([*lab.without_house().students])
-        self.rest = b""
+        self.rest = b""  # the incomplete last line
         self.torn_since = 0.0  # the time of the last bytes of an incomplete line
-        self.news_came = time.monotonic()
+        self.news_came = time.monotonic()  # the time of the last new event
         self.report = first_report(client)
         self.is_old = False  # Whether the server refused the last request for a report.
         self.last_step = 0  # the place of the last step in the journal
-        self.count = 0
-        self.past: list[Event] = []
+        self.count = 0  # the number of events so far
+        self.past: list[Event] = []  # the events that the journal had before this process read it
 
     def catch_up(self) -> None:
         """Counts the events that the journal has already, and keeps them in `past`."""
@@ -81,7 +81,8 @@ class Follower:
 
     def news(self) -> Iterator[News]:
         """Yields each new event of the journal after counting it. Asks for the report after each event except a grant.
-        If the last request for a report was refused, first asks again."""
+        If the last request for a report was refused, first asks again. Raises `Refused` if the server refuses the
+        report, unless it is only out of memory for a moment."""
         if self.is_old:
             self.ask_report()
         more = self.journal.read()

@@ -57,8 +57,8 @@ def denial_words(word: str) -> str:
 
 
 def together(what: str, who: list[str]) -> list[str]:
-    """Returns the lines that say `what` (`connected` or `disconnected`) about the names in `who`: one line for each
-    name, or one line for all if they are more than FEW."""
+    """Returns the lines that say `what` (`connected` or `disconnected`) about the names in `who`. There is one line for
+    each name, or one line for all if they are more than FEW."""
     if len(who) <= FEW:
         return [f"{what}: {each}" for each in who]
     return [f"{what}: {plural(len(who), 'student')}: {'; '.join(who)}"]
@@ -77,7 +77,7 @@ class Heard:
         self.told: Counter[tuple[str, str]] = Counter()  # the counts that were last printed, by their subject
         self.lines: Counter[str] = Counter()  # the number of lines of each student since the last look
         self.floods: dict[str, int] = {}  # the students who flood, with the lines a second that were last printed
-        self.cut: list[str] = []
+        self.cut: list[str] = []  # whose lines have ceased to be recorded since the last look
         self.shown: Counter[str] = Counter()  # the number of connections of each student that were printed
         self.step = 0
         self.came = False  # Whether a student has greeted.
@@ -103,8 +103,8 @@ class Heard:
         self.came = not self.students.isdisjoint(self.connected())
 
     def news(self, step: int) -> list[str]:
-        """Returns lines about what is new since the last check. Checks at most once a second. `step` is the place of
-        the last step."""
+        """Returns lines about what is new since the last check, or none if that is less than a second ago. `step` is
+        the place of the last step."""
         now = time.monotonic()
         return self.look(step, now) if now >= self.due else []
 
@@ -189,9 +189,10 @@ class Heard:
         return True
 
     def wrong_keys(self) -> list[str]:
-        """Returns a line about the wrong keys for each name, whenever their number has doubled."""
-        return [f"{plural(count, 'hello')} with a wrong key for {name}" for name, count in self.wrong.items()
-                if self.note_if_news(("wrong", name), count, 1)]
+        """Returns a line about the wrong keys for each name, whenever their number has doubled. Names that the lab
+        lacks have one line together."""
+        new = [(name, plural(count, "hello")) for name, count in self.wrong.items() if self.note_if_news(("wrong", name), count, 1)]
+        return [f"{hellos} with a name that isn't in the lab" if name == OTHERS else f"{hellos} with a wrong key for {name}" for name, hellos in new]
 
     def denied(self) -> list[tuple[str, str, int]]:
         """Returns who was denied since the last step: for each student and each kind of denial the name, the word of
@@ -233,14 +234,14 @@ class Heard:
         known, every = self.connected(), self.connected().total()
         how = [text for text in otherwise if known[text.partition(",")[0]]]
         known.subtract(text.partition(",")[0] for text in how)
-        names = [name if times == 1 else f"{name} by {times} connections" for name, times in sorted(known.items()) if times > 0] + how
+        names = [name if times == 1 else f"{name} with {times} connections" for name, times in sorted(known.items()) if times > 0] + how
         others = max(count - every, 0)
         names += [f"{plural(others, 'connection')} without a hello"] if others else []
         return f"{', '.join(names) or 'nobody'} ({max(count, every)} of {all_seats} seats are taken)"
 
     def amiss(self) -> list[str]:
-        """Returns lines about wrong keys, floods, and students who were denied since the last step, for the command
-        `who`."""
+        """Returns lines for the command `who`: about wrong keys, about students who were denied since the last step,
+        and about floods."""
         wrong = ", ".join(f"{count} for {name}" for name, count in self.wrong.items())
         vain = [f"{plural(count, 'request')} of {name} {denial_words(word)}" for name, word, count in self.denied()]
         floods = ", ".join(f"{name} ({rate} lines a second)" for name, rate in self.floods.items())

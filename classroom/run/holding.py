@@ -60,7 +60,7 @@ class Running:
     takes_lines: bool  # Whether commands are read from standard input even if it isn't a terminal.
     tell: Teller
     play: int | None = None  # the port of the page on which students play, if the run has one
-    goes_on: bool = False  # Whether the run is one that began earlier and continues.
+    is_continued: bool = False  # Whether the run is one that began earlier and continues.
     by_number: bool = False  # Whether the server was started for a number of connections.
     stand_in: float | None = None  # seconds that the class waits for a node before the house plays it
     looks: str | None = None  # The token in the address at which people watch the page, if the run had one already.
@@ -130,7 +130,7 @@ def open_desk(it: server.Server, run: Running) -> Desk:
     if run.is_in_class():
         state = StateFile(run.folder, run.names)
         desk.keep_state = lambda: state.write_if_changed(desk)
-    if run.goes_on:
+    if run.is_continued:
         desk.catch_up()
     # If this process has started the server, students who were connected to an earlier one aren't connected any longer.
     if desk.heard and it.child is not None:
@@ -145,12 +145,16 @@ def open_desk(it: server.Server, run: Running) -> Desk:
 def renew(run: Running, it: server.Server, desk: Desk, name: str) -> None:
     """Gives the student `name` another key in the run. For that, replaces the server `it` by a new one, whose values
     `it` has afterwards, and connects the desk to it. Prints the key if only the teacher can read what is printed.
-    Raises `ValueError` if there is no such student, and `Fault` if the class can't continue."""
+    Raises `ValueError` if there is no such student, and `Fault` if the class can't continue. Raises `Left`, `Closed` or
+    `Denied` if the desk can't be connected to the new server."""
     renewing.renew(run.folder, run.lab, it, desk, name)
     if run.hands is not None:
         run.hands.students = it.port
     run.update_record(server=it.process, port=it.port, desk=it.desk)
-    desk.use_connection(take_desk(it, run.lab.teacher, run.typed, run.tell, run.note_hung))
+    try:
+        desk.use_connection(take_desk(it, run.lab.teacher, run.typed, run.tell, run.note_hung))
+    except Refused as refused:
+        raise Closed(str(refused)) from None  # The desk has no connection now. After `Closed` it connects again.
     run.tell(f"the class continues at port {it.port}; all programs have to connect again")
     if is_private(run.takes_lines):
         run.tell.print_only(f"the new key of {name} is {run.lab.students[name]}")
@@ -232,7 +236,7 @@ def hold(run: Running, it: server.Server) -> int | None:
         return give_up(it, run, LATE if isinstance(error, Over) else TICK)  # After `Over`, the server is about to end by itself.
     with contextlib.closing(DiskRoom(run.folder, it.process.number)) as room:
         why = attend(desk, it, run.until == "stable", run.typed, room, run.note_hung)
-    return take_leave(it, desk, why, run)
+    return end_run(it, desk, why, run)
 
 
 def give_up(it: server.Server, run: Running, seconds: float) -> int | None:
@@ -252,7 +256,7 @@ def leave(it: server.Server, run: Running) -> None:
     run.tell(f"the server (process {it.process.number}) keeps running, but nobody controls it. To control it again, type: {CLASS} attach {run.folder}")
 
 
-def take_leave(it: server.Server, desk: Desk, why: str, run: Running) -> int | None:
+def end_run(it: server.Server, desk: Desk, why: str, run: Running) -> int | None:
     """Ends the server `it` of a run, and prints how the run ended. `why` is the reason, a word that `attend` returns.
     Says bye at the desk, which ends a hosted server. After `died` says no bye, and after `left` only closes the
     connection, since another process takes over the desk. If the server has failed, saves the journal if its file is
@@ -302,8 +306,8 @@ def wait_for_server(it: server.Server, run: Running) -> bool:
 
 def to_the_end(run: Running, start: Callable[[], server.Server]) -> int:
     """Opens the pages of a run, and runs the desk of the server that `start` returns. At the end, writes marks and
-    pages into the folder. Returns the exit status, which is FAILED, without marks and pages, if the run continues
-    without this process. Raises `Fault` if a page can't be opened, or if `start` raises it."""
+    pages into the folder. Returns the exit status. If the run continues without this process, writes no marks and
+    pages, and returns FAILED. Raises `Fault` if a page can't be opened, or if `start` raises it."""
     try:
         if run.page is not None:
             kept_layout.load(run.folder)

@@ -46,20 +46,20 @@ class House:
     def play(self, name: str) -> str:
         """Makes the house play the nodes of the student `name` from now on, without waiting. Returns the line that
         reports it. Raises `ValueError` if there is no such student."""
-        self.played.add(self.student(name))
+        self.played.add(self.require_student(name))
         self.keep(sorted(self.played))
         return f"the house now plays for {name}, at {named(sorted(self.students[name]))}"
 
     def stop(self, name: str) -> str:
         """Ends the house's playing for the student `name`. Returns the line that reports it. Raises `ValueError` if
         there is no such student, or if the house doesn't play for this student."""
-        if self.student(name) not in self.played:
+        if self.require_student(name) not in self.played:
             raise ValueError(f"there is nothing to stop: the house doesn't play for {name}")
         self.played.discard(name)
         self.keep(sorted(self.played))
         return f"the house no longer plays for {name}"
 
-    def student(self, name: str) -> str:
+    def require_student(self, name: str) -> str:
         """Returns the name if it is the name of a student with nodes. Raises `ValueError` otherwise."""
         if name not in self.students:
             raise ValueError(f"there is no student {name} with a node. The students are: {', '.join(self.students)}")

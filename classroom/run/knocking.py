@@ -46,7 +46,7 @@ class Knock:
         end = time.monotonic() + seconds
         while time.monotonic() < end:
             if self.connection is None:
-                self.connection = opened(self.port)
+                self.connection = try_to_connect(self.port)
             time.sleep(BETWEEN)
 
     def take_connection(self) -> socket.socket | None:
@@ -55,7 +55,7 @@ class Knock:
         return it
 
 
-def opened(port: int) -> socket.socket | None:
+def try_to_connect(port: int) -> socket.socket | None:
     """Returns a connection to a port of this machine, or None if no program accepts it within LONGEST seconds."""
     try:
         return socket.create_connection(("127.0.0.1", port), timeout=LONGEST)

@@ -1,6 +1,7 @@
 """A door for the runs of a class: its options, and the lines that are printed about it. A *door* is a TLS port at which
 students on other machines connect, and its folder has its data. A *slip* is the file with what a student needs to
-connect. In each function, a folder of None means that there is no door."""
+connect, and a page's *token* is the random text in its address. In each function, a folder of None means that there is
+no door."""
 from __future__ import annotations
 
 import argparse
@@ -51,7 +52,7 @@ def door(words: argparse.Namespace, labs: Iterable[Path], tell: Callable[[str], 
 
 def door_lines(opened: opening.OpenDoor, labs: list[Path], file: Path) -> Iterator[str]:
     """Yields the lines about an open door: its port, its certificate in `file`, and the labs whose slips name another
-    address."""
+    address. Raises `Fault` if the file has no certificate."""
     yield f"the door is open at port {opened.port}; its certificate is {file}, with the SHA-256 fingerprint {certificate.fingerprint(file)}"
     wrong = opening.misled_labs(labs, file, opened.port)
     if wrong:

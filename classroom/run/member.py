@@ -39,7 +39,7 @@ LEFT_OUT = re.compile(rf"{TO_CONTINUE}.*|the lesson .*|it is \d\d:\d\d: .*")  # 
 
 
 def environment() -> dict[str, str]:
-    """Returns the environment for a run's process, which makes its output unbuffered."""
+    """Returns the environment for a run's process: that of this process, with unbuffered output."""
     return {**os.environ, "PYTHONUNBUFFERED": "1"}
 
 
@@ -79,7 +79,7 @@ class Member:
         else:
             words = ["run", "--resume", str(self.folder), *self.resume_words(), *(["--again"] if record.ended else [])]
         self.status, self.alarm, self.why, self.is_ready, self.facts = STARTS, "", "", False, {}
-        self.wanted = wanted(self.more, record)
+        self.wanted = facts_to_come(self.more, record)
         self.child = subprocess.Popen(
             [sys.executable, TOP / "class", *words, "--typed"], stdin=subprocess.PIPE, stdout=subprocess.PIPE,
             stderr=subprocess.STDOUT, text=True, start_new_session=True, env=environment(),
@@ -87,8 +87,9 @@ class Member:
         threading.Thread(target=self.follow, args=[self.child, hear, ended], daemon=True).start()
 
     def resume_words(self, *but: str) -> list[str]:
-        """Returns the arguments for a run that continues: those of the network without its port, its folder, `--serve`
-        and `--beside`, which are only for a new run. The options in `but` are also left out, each with its value."""
+        """Returns the arguments for a run that continues. They are those of the network without the options for a new
+        run: `--port` and `--into` with their values, `--serve` and `--beside`. The options in `but` are also left out,
+        each with its value."""
         words = list(self.more)
         for word in ("--port", "--into", *but):
             if word in words:
@@ -211,7 +212,7 @@ def fact_in(line: str) -> tuple[str, str]:
     return "", ""
 
 
-def wanted(words: list[str], record: Record | None) -> set[str]:
+def facts_to_come(words: list[str], record: Record | None) -> set[str]:
     """Returns the names of the facts that a run with the arguments `words` prints while it starts. `record` is that of
     the run if it continues, and otherwise None."""
     found = {"port"} | ({"play_from"} if "--door-at" in words else set())

@@ -1,4 +1,5 @@
-"""The tables of a class's networks that its desk prints: at the start, and later with the state of each."""
+"""The tables of a class's networks that its desk prints: at the start, and later with the state of each. A *privileged*
+node has an enabled rule."""
 from __future__ import annotations
 
 from collections.abc import Sequence

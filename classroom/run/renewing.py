@@ -2,7 +2,7 @@
 its journal.
 
 The *host* is the server of a class, and the *desk* is the teacher's connection to it. The *record* is what the host
-keeps about connections and requests. The roster of a running server can't change. A killed host doesn't report that the
+keeps about connections and requests. The keys of a running server can't change. A killed host doesn't report that the
 class is over, so programs connect again. All granted events are in the journal, because each line was synced.
 """
 from __future__ import annotations

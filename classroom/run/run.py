@@ -1,7 +1,7 @@
 """`./class run`: starts a server with its own folder and a desk that closes steps, and writes marks at the end.
 
-The *desk* is the teacher's connection to the server, and the *house* plays for absent students. A *record* is the file
-`run.json` in the folder of a run, by which other processes find it.
+The *desk* is the teacher's connection to the server, and the *house* plays for absent students. The *daemon* decides
+when a step is closed. A *record* is the file `run.json` in the folder of a run, by which other processes find it.
 """
 from __future__ import annotations
 
@@ -12,7 +12,7 @@ from pathlib import Path
 
 from classroom.client import NoSlip, port_of
 from classroom.core import lab as labs
-from classroom.core.classes import is_class
+from classroom.core.classes import Class, is_class
 from classroom.core.counts import seconds
 from classroom.core.folders import Record, going, new_folder, of_folder
 from classroom.core.program import CLASS, Fault
@@ -115,6 +115,9 @@ def resume(words: argparse.Namespace) -> int:
     and daemon. Options of the command line override these. Returns the exit status. Raises `Fault` if the run is still
     going on, if it was ended on purpose and `--again` isn't given, or if it can't be continued."""
     folder = Path(words.resume)
+    if words.door is not None and words.play is None:
+        words.plays = kept_plays(folder)  # The door leads to these pages.
+        words.play = words.plays[0]
     if is_class(folder):
         return class_again.hold_again(words, folder)
     lab_file, _ = of_folder(folder)
@@ -125,9 +128,9 @@ def resume(words: argparse.Namespace) -> int:
         raise Fault(f"{folder}: this run was ended. If you want to continue it, add --again; its audit, page and marks are then made again")
     lab = labs.read(lab_file)
     check_stand_in(words, lab, lab_file)
-    run = Running(folder, Path(record.lab), lab, words.close or closing.kept(folder, record),
+    run = Running(folder, Path(record.lab), lab, words.close or closing.kept_daemon(folder, record),
                   words.until or record.until, words.page or record.page, words.typed, Teller(folder),
-                  words.play or record.play, goes_on=True, stand_in=words.stand_in or record.stand_in,
+                  words.play or record.play, is_continued=True, stand_in=words.stand_in or record.stand_in,
                   looks=record.looks, played=record.played, ends=end_of(words.ends, record.ends), anonymous=words.anonymous or record.anonymous)
     with letting.door(words, [run.lab_file], run.tell, record.door) as run.door:
         return to_the_end(run, lambda: start_server(run, record.port, record))
@@ -167,6 +170,20 @@ def start_server(run: Running, port_asked: int, record: Record | None = None) ->
     return it
 
 
+def kept_plays(folder: Path) -> list[int]:
+    """Returns the port of the page to play for the run in a folder, or for each run of the class in it. The ports are
+    those that the pages had before. If there was no such page, they are the ports on the slips, or consecutive ones
+    from PLAY on. Raises `Fault` if the file that describes the class is damaged."""
+    found = Class.read(folder)
+    runs = [(folder / network.name, Path(network.lab)) for network in found.networks] if found else [(folder, folder / "lab.toml")]
+    known: list[int | None] = []
+    for own, lab in runs:
+        record = Record.read(own)
+        way = Way.read(Path(record.lab) if record else lab)
+        known.append(record.play if record and record.play is not None else way.page if way else None)
+    return ports_for(None, PLAY, known)
+
+
 def ports_for(asked: int | None, default: int, known: Sequence[int | None]) -> list[int]:
     """Returns a port for each lab. If `asked` isn't None, these are consecutive ports from `asked` on. Otherwise the
     ports are those in `known` if each lab has one and all differ, or else consecutive ports from `default` on. `known`
@@ -186,10 +203,10 @@ def run(words: argparse.Namespace) -> int:
         raise Fault("run: --again can only be used together with --resume FOLDER")
     if words.rooms and len(words.labs) < 2:
         raise Fault("run: --rooms can only be used with several labs")
-    if words.door is not None and words.play is None:
-        words.play = PLAY  # The addresses on the slips have this port.
     if words.resume:
         return resume(words)
+    if words.door is not None and words.play is None:
+        words.play = PLAY  # The addresses on the slips have this port.
     ways = [Way.read(Path(lab)) for lab in words.labs]
     words.ports = ports_for(words.port, FIRST_PORT, [way.port if way else None for way in ways])
     # PLAY is also the port of --play without a number, so then the ports on the slips come first.

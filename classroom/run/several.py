@@ -2,7 +2,8 @@
 
 The *desk* is the terminal or program at which the teacher types commands. A *member* is a network with its process. A
 network is *down* if its server or its desk is gone, which is printed as an alarm. *News* are functions in a queue,
-which one thread calls one after another.
+which one thread calls one after another. The *hall* is the page for all networks, whose address has a random *token*. A
+*door* is a TLS port at which students on other machines connect.
 """
 from __future__ import annotations
 
@@ -53,8 +54,9 @@ class Several:
         self.names = [member.name for member in members]
         self.terminal: Terminal | None = None
         self.hall: hall.Hall | None = None
+        self.written: Class | None = None  # the contents of `class.json`, once this process has written the file
         self.from_elsewhere = ""  # the address of the page for all through the door
-        self.lines: list[str] = []
+        self.lines: list[str] = []  # the last lines, which the page shows
         self.is_told = False  # Whether the table was printed.
         self.is_left = False  # Whether another process takes the desks.
         self.is_ended = False  # Whether a signal has ended the class.
@@ -73,9 +75,9 @@ class Several:
             pass  # The terminal went away; each run keeps its lines.
 
     def hear(self, member: Member, line: str) -> None:
-        """Notes the facts in a line that the process of the network `member` has printed, and prints the line after the
-        network's name unless the table of networks has it. The address to act at is printed only if nobody but the
-        teacher reads it."""
+        """Notes the facts in a line that the process of the network `member` has printed. Prints the line after the
+        network's name, unless the table of networks has its content. The address to act at is printed only if nobody
+        but the teacher reads it."""
         is_private_line = line.startswith(f"{TO_ACT} http")
         if member.note_line(line) and (not is_private_line or is_private(self.is_typed)):
             self.say(f"{member.name}: {line}", is_private_line)
@@ -231,7 +233,7 @@ class Several:
         class has ended."""
         return ClassState(title(self.folder), [member.shown(acts) for member in self.members], self.lines, ended)
 
-    def goes_on(self) -> bool:
+    def has_open_network(self) -> bool:
         """Returns whether any network is running, or is down and can still be resumed by a line or by the page. After a
         signal, neither can resume a network."""
         can_be_told = not self.is_ended and (self.is_typed or self.hall is not None)
@@ -241,7 +243,7 @@ class Several:
         """Runs the desk until each network has ended, or is down and can't be resumed from the desk or its page. Ends
         earlier if another process takes the desks. Returns the exit status: the highest of the networks' processes, or
         FAILED if another process takes the desks."""
-        while self.goes_on() and not self.is_left:
+        while self.has_open_network() and not self.is_left:
             try:
                 self.news.get(timeout=TICK)()
             except queue.Empty:
@@ -258,8 +260,8 @@ class Several:
         return max(member.code for member in self.members)
 
     def end(self) -> None:
-        """Ends the run of each network that is running, because of a signal. Also stops waiting for those that are down.
-        The exit status of those isn't 0."""
+        """Ends the run of each network that is running, because of a signal. Also stops waiting for those that are
+        down. The exit status of those isn't 0."""
         self.is_ended = True
         for member in self.members:
             member.terminate()
@@ -277,10 +279,11 @@ class Several:
                 member.child.wait()
 
     def note_hung(self) -> None:
-        """Notes in the file `class.json` that the terminal is closed. The class continues without one."""
-        found = Class.read(self.folder)
-        if found is not None:
-            replace(found, left=True).write(self.folder)
+        """Notes in the file `class.json` that the terminal is closed. The class continues without one. Writes the whole
+        file again, so that `attach` can take over the class even if the file was damaged meanwhile."""
+        if self.written is not None:
+            self.written = replace(self.written, left=True)
+            self.written.write(self.folder)
 
     def queue_signals(self) -> None:
         """Makes each signal that comes from now on put the function that handles it into the queue of news."""
@@ -309,11 +312,11 @@ def desk_words(words: argparse.Namespace) -> list[str]:
 
 def words_of(words: argparse.Namespace, index: int) -> list[str]:
     """Returns the arguments for the process that runs the network with this index. `words` are the arguments of a new
-    class, or those of `attach` or `run --resume`. Only a new class has `ports` for the networks, and `plays` for the
-    pages on which students play. A network that continues keeps its port and, if `play` is None, the port of this page.
-    If `play` is set, but `plays` is missing, the first network's page gets the port `play`, and the others the next
-    ones. The class's own page has the port `page`, and the pages of the networks have the next ones. `attach` has no
-    option `--serve`."""
+    class, or those of `attach` or `run --resume`. Only a new class has `ports` for the networks. A new class, and one
+    that continues with a new door, has `plays` for the pages on which students play. A network that continues keeps its
+    port and, if `play` is None, the port of this page. If `play` is set, but `plays` is missing, the first network's
+    page gets the port `play`, and the others the next ones. The class's own page has the port `page`, and the pages of
+    the networks have the next ones. `attach` has no option `--serve`."""
     more, plays = desk_words(words), getattr(words, "plays", None)
     more += ["--port", str(words.ports[index])] if hasattr(words, "ports") else []
     more += ["--serve"] if getattr(words, "serve", False) else []
@@ -365,9 +368,9 @@ def require_ports(words: argparse.Namespace, count: int) -> None:
 def run_desk(folder: Path, members: list[Member], news: News, words: argparse.Namespace, start_networks: Callable[[Several], None]) -> int:
     """Opens the page and the door of the class in a folder if the arguments `words` ask for them, writes the class's
     file, and calls `start_networks`. Then runs the desk of the class to its end, for the networks `members`. `news` is
-    the queue of functions that the desk calls. If the class continues, uses the earlier end of the lesson, address of
-    the page and door again, which the file has. Returns the exit status. Raises `Fault` if the page or the door can't
-    be opened, or if the end of the lesson has passed."""
+    the queue of functions that the desk calls. If the class continues, the file has the earlier end of the lesson,
+    address of the page and door, and they are used again. Returns the exit status. Raises `Fault` if the page or the
+    door can't be opened, or if the end of the lesson has passed."""
     typed = words.typed or sys.stdin is not None and sys.stdin.isatty()
     kept = Class.read(folder)
     end = end_of(words.ends, kept.ends if kept else None)
@@ -397,16 +400,17 @@ def open_page(several: Several, port: int, token: str | None) -> hall.Hall:
 
 
 def write_class(several: Several, end: datetime | None, door: str | None) -> None:
-    """Writes the file of a class, with this process as the one that holds its desks. `end` is the end of the lesson,
-    and `door` the folder of the door, if there are any."""
+    """Writes the file of a class, with this process as the one that holds its desks, and keeps the contents in
+    `several`. `end` is the end of the lesson, and `door` the folder of the door, if there are any."""
     page = several.hall
-    Class([member.network for member in several.members], Process.of(os.getpid()), page=page.server_port if page else None,
-          looks=page.looks if page else None, ends=end.isoformat() if end else None, door=door).write(several.folder)
+    several.written = Class([member.network for member in several.members], Process.of(os.getpid()), page=page.server_port if page else None,
+                            looks=page.looks if page else None, ends=end.isoformat() if end else None, door=door)
+    several.written.write(several.folder)
 
 
 def with_door(words: argparse.Namespace) -> argparse.Namespace:
-    """Returns the arguments, with None for each option of a door that they lack, as those of `attach` do. If no option
-    names a door, an earlier door of the class is opened again."""
+    """Returns the arguments, with None for each option of a door that they lack. (Those of `attach` lack all of these
+    options.) If no option names a door, an earlier door of the class is opened again."""
     return argparse.Namespace(**{"door": None, "door_at": None, "certificate": None, **vars(words)})
 
 

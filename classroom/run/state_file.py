@@ -23,8 +23,8 @@ class StateFile:
     def __init__(self, folder: Path, names: ShownNames) -> None:
         """`folder` is that of the run, and `names` are the names that pages show for students."""
         self.folder, self.names = folder, names
-        self.due = 0.0
-        self.written: dict[str, Any] | None = None
+        self.due = 0.0  # the time before which nothing is written
+        self.written: dict[str, Any] | None = None  # the state that was written last
 
     def write_if_changed(self, desk: Desk) -> None:
         """Writes the state of a desk's network if it has changed, at most once a second."""

@@ -44,9 +44,11 @@ class Striker:
             desk.note_refusal(refused)
 
     def close_by_moves(self, desk: Desk, now: float) -> None:
-        """Closes a step at the time `now` under a daemon that chooses among the granted moves, or prints for whom the
-        class waits. `strike` says when. Raises `Refused` and closes no step if the server refuses a request before the
-        close."""
+        """Closes a step at the time `now` if the daemon, one that chooses among the granted moves, decides so. If no
+        step is closed and no event has come for SECONDS, prints for whom the class waits, unless steps are closed by
+        hand. If the search of the adversary fails, prints that and changes the daemon to when-idle. Raises `Refused`,
+        and closes no step, if the server refuses a request before the close. Raises `Denied` if the server denies one
+        for an unexpected reason."""
         known = desk.known
         sight = Sight([node for node, _ in known.report.privileged], list(known.book.chosen), now - known.news_came, now - self.closed)
         try:
@@ -79,8 +81,8 @@ class Striker:
     def release_others(self, desk: Desk, but: set[int]) -> None:
         """Releases the chosen moves of all nodes that aren't in `but`, also those that are granted meanwhile. A move
         that is granted after the last check is applied too, since only the server could prevent that. Stops if the desk
-        notices that nothing more is granted. Raises `Refused` if a release is refused, and `Denied` if one is denied for
-        another reason than that no move is chosen."""
+        notices that nothing more is granted. Raises `Refused` if a release is refused, and `Denied` if one is denied
+        for another reason than that no move is chosen."""
         for _ in range(LOOKS):
             others = sorted(desk.known.book.chosen.keys() - but)
             for node in others:

@@ -22,8 +22,9 @@ def take_desk(it: Server, teacher: tuple[str, str], typed: Typed, tell: Callable
     """Connects to the desk of the server `it`, with the name and key of the teacher, and returns the connection. Tries
     again for a minute if that fails, and prints a line about it once. Meanwhile reads `typed`, the queue of typed
     lines, for signals, and calls `hung` if the terminal was closed. Raises the last `Closed` or `Refused` after the
-    minute, or if the server has ended or the run is to end. Raises `Denied` at once if the name and the key aren't
-    those of the teacher, and `Left` if another process wants the desk."""
+    minute, or if the server has ended or the run is to end. In the last case the signal is in `typed` again. Raises
+    `Denied` at once if the name and the key aren't those of the teacher, and `Left` if another process wants the
+    desk."""
     end, is_told = time.monotonic() + PATIENCE, False
     while True:
         try:
@@ -57,9 +58,9 @@ def reason_line(error: Closed | Refused) -> str:
 
 
 def wait_for_end(typed: Typed, hung: Callable[[], None]) -> bool:
-    """Waits a moment for a signal among the typed lines. Returns whether a signal came that ends the run. Calls `hung`
-    if the terminal was closed. A typed command that comes meanwhile is dropped. Raises `Left` if another process wants
-    the desk."""
+    """Waits a moment for a signal among the typed lines. Returns whether a signal came that ends the run, and puts this
+    signal into the queue again. Calls `hung` if the terminal was closed. A typed command that comes meanwhile is
+    dropped. Raises `Left` if another process wants the desk."""
     try:
         word = typed.get(timeout=PAUSE)
     except queue.Empty:
@@ -68,4 +69,6 @@ def wait_for_end(typed: Typed, hung: Callable[[], None]) -> bool:
         raise Left
     if word == HUNG:
         hung()
+    if word == NOW:
+        typed.put(NOW)  # A run that goes on without the connection, as after the command `key`, reads this signal again.
     return word == NOW

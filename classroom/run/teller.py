@@ -19,8 +19,8 @@ FROM_ELSEWHERE = ", from other machines"  # This comes after the name of a page 
 
 def is_private(typed: bool) -> bool:
     """Returns whether only the teacher reads what is printed. Returns True for a terminal and for the system's journal,
-    but not for a file. Returns True for a pipe, too, if `typed` says that a program types the commands: then this
-    program reads what is printed."""
+    which is a socket, but not for a file. Returns True for a pipe, too, if `typed` says that a program types the
+    commands: then this program reads what is printed."""
     try:
         mode = os.fstat(sys.stdout.fileno()).st_mode
         return sys.stdout.isatty() or stat.S_ISSOCK(mode) or typed and not stat.S_ISREG(mode)
@@ -35,7 +35,7 @@ class Teller:
     def __init__(self, folder: Path) -> None:
         """`folder` is that of the run, in which the lines are kept."""
         self.path = folder / "run.txt"
-        self.also: list[Callable[[str], None]] = []
+        self.also: list[Callable[[str], None]] = []  # functions to which each line is passed too
         self.around: Callable[[str], str] = str  # Returns the characters that print a text while a line is typed at the terminal.
 
     def __call__(self, line: str) -> None:
@@ -61,6 +61,7 @@ class Teller:
         try:
             print(self.around(line + "\n"), end="", flush=True)
         except OSError:
+            # From now on, nothing that is printed raises an error, also not when the program ends.
             with open(os.devnull, "w", encoding="utf-8") as nowhere:
                 os.dup2(nowhere.fileno(), sys.stdout.fileno())
 

@@ -65,8 +65,8 @@ class Terminal:
         return found[state] if state < len(found) else None
 
     def around(self, line: str) -> str:
-        """Returns the characters that print `line` on the terminal above the line that is being typed, or `line` itself
-        if the terminal isn't read at the moment."""
+        """Returns the characters that print `line` on the terminal above the line that is being typed. If no line is
+        being typed at the moment, returns `line` itself."""
         # The first characters erase the typed line, which is printed again after `line`.
         return f"\r\x1b[K{line}{self.prompt}{self.readline.get_line_buffer()}" if self.reads else line
 

@@ -15,6 +15,7 @@ from pathlib import Path
 
 from classroom.core import lab as labs
 from classroom.core import bounds, limits, networks
+from classroom.core.counts import plural
 from classroom.core.printable import printable
 from classroom.core.program import TOP, Answer, Fault, call
 from classroom.core.statuses import WARNED
@@ -33,6 +34,8 @@ ENOUGH_BITS = 64  # the bits that a key needs if a person may have chosen it
 ENOUGH_DRAWN = keys.bits_of(keys.WORDS_EACH, keys.DIGITS)  # the bits that a key needs if it was drawn by lot, as `new` does
 KINDS = (string.ascii_lowercase, string.ascii_uppercase, string.digits, string.punctuation)  # the kinds of characters of which a key is taken to be drawn
 OTHERS = 128  # how many characters a key is taken to be drawn from if one of its characters is of no kind
+DAY = 86400  # in seconds
+YEAR = 365 * DAY
 
 
 def refused(path: Path, error: str) -> Iterator[str]:
@@ -149,15 +152,15 @@ def nearest(key: str, known: Iterable[str]) -> str | None:
 
 def is_drawn(key: str) -> bool:
     """Returns whether a person's key looks like one that `new` has drawn at random. Such a key consists of words of the
-    list and numbers, and has at least WORDS_EACH words."""
+    list in `word_list` and of numbers, and has at least WORDS_EACH words."""
     parts = keys.count_parts(key)
     return parts is not None and parts[0] >= keys.WORDS_EACH
 
 
 def bits(key: str) -> float:
     """Returns an upper bound on the bits of entropy of a person's key. If the key looks drawn at random (`is_drawn`),
-    counts its words and digits as random ones. Otherwise returns the smaller of that count, if the key consists of
-    words of the list and digits, and of `bits_of_letters`."""
+    counts its words and digits as random ones. Otherwise returns the smaller one of two bounds: that count,
+    if the key has only such parts, and `bits_of_letters`."""
     parts = keys.count_parts(key)
     by_words = keys.bits_of(*parts) if parts else math.inf
     return by_words if is_drawn(key) else min(by_words, bits_of_letters(key))
@@ -183,15 +186,18 @@ def effort(key: str) -> str:
     """Returns the longest time in which a person's key can be guessed, as a text. The server limits the rate of
     guesses."""
     seconds = 2 ** bits(key) / keys.DENIALS
-    for size, word in ((86400 * 365, "years"), (86400, "days"), (3600, "hours"), (60, "minutes")):
-        if seconds >= size:
-            return f"{seconds / size:.0f} {word}" if seconds < 1e6 * size else f"over a million {word}"
-    return f"{seconds:.0f} seconds"
+    for size, scale in ((1e9, "billion"), (1e6, "million")):
+        if seconds >= size * YEAR:
+            return f"{seconds / (size * YEAR):.0f} {scale} years"
+    for length, unit in ((YEAR, "year"), (DAY, "day"), (3600, "hour"), (60, "minute")):
+        if seconds >= length:
+            return plural(round(seconds / length), unit)
+    return plural(round(seconds), "second")
 
 
 def example_keys() -> set[str]:
     """Returns the keys of all persons in the example labs and in the lab that is built into the program. These keys are
-    public."""
+    public. Raises `Fault` if an example lab can't be read."""
     found = {"chalk", "a-key", "b-key", "c-key"}  # those of the built-in lab
     for path in (TOP / "examples").glob("*.toml"):
         it = labs.document(path)
@@ -206,8 +212,8 @@ def key_warnings(lab: labs.Lab) -> Iterator[str]:
         if key in examples:
             yield f"the key of {name} is that of an example lab, which everybody can read. Write another key"
         elif bits(key) < (ENOUGH_DRAWN if is_drawn(key) else ENOUGH_BITS):
-            yield (f"the key of {name} is easy to guess: it has at most {bits(key):.0f} bits, and guessing it takes at most {effort(key)}. "
-                   "Write a longer key; 128 bits are certainly enough")
+            yield (f"the key of {name} may be easy to guess: it has at most {bits(key):.0f} bits, and guessing it takes at most {effort(key)}. "
+                   "It may take much less. Write a longer key; 128 bits are certainly enough")
 
 
 def network_warnings(lab: labs.Lab) -> Iterator[str]:
@@ -236,7 +242,8 @@ def parts_of(near: dict[int, list[int]]) -> int:
 
 
 def limit_warnings(lab: labs.Lab) -> Iterator[str]:
-    """Yields warnings if the lab has fewer sessions or events than the class may need."""
+    """Yields warnings if the lab has fewer sessions or events than the class may need. Raises `Fault` if the program
+    doesn't print the limits or bounds."""
     people, most = len(lab.without_house().students) + 1, limits.allowed().sessions
     if lab.sessions < people:
         yield (f"`sessions` is {lab.sessions}, so the {people - 1} students and the teacher can't all be connected at once. "
@@ -256,8 +263,8 @@ def pair_warnings(lab: labs.Lab) -> Iterator[str]:
 
 
 def start_warnings(path: Path, lab: labs.Lab) -> Iterator[str]:
-    """Yields a warning if no node is privileged at the beginning, according to the program's report. `path` is the
-    lab's file. Raises `Fault` if the program refuses it."""
+    """Yields a warning if no node is privileged at the beginning, that is, if no rule can be applied at any
+    node. Learns this from the program's report. `path` is the lab's file. Raises `Fault` if the program refuses it."""
     hello = '{"do":"hello","name":"%s","key":%s}' % (lab.teacher[0], labs.quoted(lab.teacher[1]))
     with tempfile.TemporaryDirectory() as room:
         script = Path(room, "script")
@@ -270,8 +277,8 @@ def start_warnings(path: Path, lab: labs.Lab) -> Iterator[str]:
 
 
 def warnings(path: Path) -> Iterator[str]:
-    """Yields all warnings about the lab in a file, which the program accepts. If `labs.read` fails all the same, the
-    unknown TOML keys and tables are still reported, and that the lab can't be read. Then the people's secret keys, the
+    """Yields all warnings about the lab in a file, which the program accepts. If `labs.read` fails all the same, yields
+    only those about unknown TOML keys and tables, and a line with this error. Then the people's secret keys, the
     network with its owners, the limits and the beginning aren't checked."""
     text = path.read_text(encoding="utf-8-sig")
     for line, key, meant in unknown_keys(text):

@@ -65,11 +65,12 @@ def add_words(words: argparse.ArgumentParser) -> None:
 
 def ways(words: argparse.Namespace, files: list[Path], rooms: list[str], before: list[Way | None] | None = None) -> list[Way]:
     """Returns the way into the network of each lab, for the labs in these files. `rooms` has the room of each network,
-    and `before` the way on each lab's earlier slips, or None. Each port is that of the arguments, or else that in
-    `before`, or else the default; the arguments and defaults name the first lab's port, and each further lab has the
-    next one. A way has only the door of the arguments, or else only their ssh account, or else both as in `before`, or
-    else the account `NAME` at this machine. Makes the certificate of a door in the arguments if it is missing. Raises
-    `Fault` if that fails, if two networks have the same name, or if a port is too high."""
+    and `before` the way on each lab's earlier slips, or None. Each value is that of the arguments, or else that in
+    `before`, or else a default. The arguments and the defaults name the first lab's ports, and each further lab has the
+    next ones. If the arguments name a door, a way has no ssh account; if they name only such an account, a way has no
+    door. Without any door or account, a way has the account `NAME` at this machine. Makes the certificate of a door in
+    the arguments if it is missing. Raises `Fault` if that fails, if two networks have the same name, or if a port is
+    too high."""
     found, names = [], [network(file) for file in files]
     if len(set(names)) < len(names):
         same = next(name for name in names if names.count(name) > 1)
@@ -94,7 +95,8 @@ def ways(words: argparse.Namespace, files: list[Path], rooms: list[str], before:
 
 def rewrite_slips(made: labs.Lab, way: Way, lab: Path) -> None:
     """Writes the page with the slips of the lab `made`, and the slips of its students and its teacher, beside the lab's
-    file `lab`. `way` is the way into its network. Replaces older files."""
+    file `lab`. `way` is the way into its network. Replaces older files. Raises `Fault` if a file can't be
+    written."""
     folder = slips.folder_of(lab)
     folder.mkdir(mode=0o700, exist_ok=True)
     for name in made.without_house().students:

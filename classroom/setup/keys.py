@@ -28,8 +28,8 @@ def for_programs() -> str:
 
 
 def count_parts(key: str) -> tuple[int, int] | None:
-    """Returns the number of words of the list in a key, and the number of digits in its other parts. Returns None if
-    the key has parts of another kind."""
+    """Returns how many parts of a key are words of WORDS, and the number of digits in its other parts. The parts are
+    separated by hyphens. Returns None if the key has parts of another kind."""
     parts = key.split("-")
     digits = [part for part in parts if part.isascii() and part.isdecimal()]
     words = [part for part in parts if part in KNOWN]

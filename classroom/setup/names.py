@@ -60,7 +60,9 @@ def sounds(named: list[str]) -> str | None:
     if len(named) < 3:
         return None
     if named[0] in ("ARABIC", "HEBREW") and named[1] == "LETTER":
-        return next((SOUNDS[word.lower()] for word in reversed(named) if word.lower() in SOUNDS), None)
+        # The last known word before WITH counts, as in ALEF MAKSURA. After WITH there are marks, as in ALEF WITH HAMZA ABOVE.
+        letter = named[:named.index("WITH")] if "WITH" in named else named
+        return next((SOUNDS[word.lower()] for word in reversed(letter) if word.lower() in SOUNDS), None)
     if named[0] in SYLLABLES and (named[1] == "LETTER" or named[1:3] == ["VOWEL", "SIGN"]):
         return named[-1].lower() if named[-1].isalpha() else None
     if named[:2] == ["THAI", "CHARACTER"]:  # For example, THAI CHARACTER SARA I, or THAI CHARACTER KO KAI.
@@ -72,6 +74,7 @@ def lab_name(name: str) -> str:
     """Returns a name as a lab has it: `zoe-mueller` for `Zoë Müller` and for `Müller, Zoë`. If the result would begin
     with a digit, it gets `s-` before it. It is cut if it is longer than a name may be. The result is empty if none of
     the name's letters is known. Different persons may get the same name."""
+    # Only in a name with exactly one comma, the last name is before it.
     last, comma, first = name.partition(",")
     folded = unicodedata.normalize("NFC", f"{first} {last}" if comma and "," not in first else name).lower()
     spelled = "".join("-" if char.isspace() or char in "-_.,/" else letters(char) for char in folded)

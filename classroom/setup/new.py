@@ -1,6 +1,7 @@
 """`./class new`: makes labs from a class list, with slips for each. A *lab* is the file that defines a network with its
 students, and a *slip* has the data that a student needs to connect. The *way* into a network is what all its slips have
-in common. In all functions here, `words` are the arguments of the command line."""
+in common. The *house* is a student without a person, who may play for absent students. In all functions here, `words`
+are the arguments of the command line."""
 from __future__ import annotations
 
 import argparse
@@ -66,8 +67,8 @@ def make(words: argparse.Namespace, people: dict[str, Person], chance: random.Ra
 
 
 def require_limits(words: argparse.Namespace, students: int) -> None:
-    """Raises `Fault` if a lab can't have this number of students, to which the house is added with `--stand-in`, or the
-    events or seats that the arguments `words` ask for."""
+    """Raises `Fault` if a lab can't have this number of students, or the events or seats that the arguments `words` ask
+    for. With `--stand-in` the house counts as one more student."""
     most = limits.allowed()
     everybody, house = students + bool(words.stand_in), ", one of them the house" if words.stand_in else ""
     if everybody > most.students:
@@ -150,7 +151,7 @@ def all_or_none() -> Iterator[list[Path]]:
 def new(words: argparse.Namespace) -> int:
     """Makes the labs and their slips, after checking that all of them can be made. Prints a summary and the next
     commands. Returns the exit status. Raises `Fault`, and leaves no file, if one of them can't be made."""
-    program()
+    program()  # Raises `Fault` at the beginning if the program isn't built.
     people = lists.read(Path(words.students), words).people
     chance = random.Random(words.seed)
     if words.pairs and words.stand_in:

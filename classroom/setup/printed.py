@@ -58,7 +58,7 @@ def square(content: str) -> str:
     # qrencode prints each square of the code as two equal characters.
     rows = [line[::2] for line in done.stdout.decode("ascii").splitlines() if line]
     dark = "".join(f"M{x} {y}h1v1h-1z" for y, row in enumerate(rows) for x, cell in enumerate(row) if cell == "#")
-    size = len(rows) + 4
+    size = len(rows) + 4  # with a margin of two squares on each side
     return (f'<svg class="square" viewBox="-2 -2 {size} {size}" role="img" aria-label="the page\'s address as a QR code">'
             f'<path d="{dark}"/></svg>')
 
@@ -88,7 +88,8 @@ def rows(made: Lab, name: str) -> Iterator[tuple[str, str]]:
 
 def slip(made: Lab, shown: Lab, name: str, way: Way) -> str:
     """Returns the slip of the student `name` of the lab `made` as HTML. `shown` is the same lab without the house, a
-    program that may play for absent students. `way` is the way into the lab's network."""
+    program that may play for absent students. `way` is the way into the lab's network. Raises `Fault` if
+    qrencode fails."""
     person, link = made.people.get(name, Person(name)), address(way, name, made.students[name])
     room = f" · {escape(way.room)}" if way.room else ""
     listed = "".join(f"<dt>{head}</dt><dd>{value}</dd>" for head, value in rows(shown, name))
@@ -101,7 +102,7 @@ def slip(made: Lab, shown: Lab, name: str, way: Way) -> str:
                f"port {way.port} of your own machine.</p>"
                f'<p class="small">The certificate\'s SHA-256 fingerprint: <code>{in_parts(way.fingerprint)}</code></p>')
     else:
-        account = " (NAME is your account on that machine)" * way.ssh.startswith("NAME@")
+        account = " (NAME is your account on the server)" * way.ssh.startswith("NAME@")
         how = (f"<p>From another machine, first: <code>{escape(forwards(way))}</code>{account}</p>"
                f"<p>To play by hand: {anchor}</p>"
                f"<p>To start a bot: <code>python3 bot.py {escape(name)}.slip</code>, which connects to port {way.port}.</p>")
@@ -112,7 +113,7 @@ def slip(made: Lab, shown: Lab, name: str, way: Way) -> str:
 
 def page(made: Lab, way: Way) -> str:
     """Returns the page with the slips of all students of the lab `made` as HTML. `way` is the way into the lab's
-    network."""
+    network. Raises `Fault` if qrencode fails."""
     shown = made.without_house()
     slips = [slip(made, shown, name, way) for name in shown.students]
     sheets = ["".join(slips[at:at + EACH]) for at in range(0, len(slips), EACH)]

@@ -41,6 +41,7 @@ def changed(path: Path, name: str, key: str) -> str:
         lines[at] = re.sub(rf"(\bkey\s*=\s*){re.escape(old)}", lambda found: str(found[1]) + labs.quoted(key), lines[at], count=1)
     after = "".join(lines)
     before["student"][index]["key"] = key
+    # Only the key may differ from the old document, however the file was written.
     if labs.parsed(after) != before:
         raise Fault(f"{path}: the key of {name} can't be changed by this command, since it isn't written as `key = \"..\"` on one line. Change it by hand")
     return after
@@ -70,11 +71,11 @@ class Changed:
 
 
 def change(word: str, name: str) -> Changed:
-    """Changes the key of the student `name` in the lab's file and in the run's copy of it, and writes the student's
-    slip and the page with all slips again. `word` names the lab's file or the folder of a run. Raises `Fault` if the
-    lab has no such student, or a file can't be read or changed."""
+    """Changes the key of the student `name` in the lab's file and in the run's copy of it. Writes the student's slip
+    again, and the page with all slips if there is one. `word` names the lab's file or the folder of a run. Raises
+    `Fault` if the lab has no such student, or a file can't be read or changed."""
     files, own, record = files_of(word)
-    labs.read(files[0])
+    labs.read(files[0])  # Raises `Fault` if the program refuses the lab.
     key = keys.for_people()
     # The dict has the new texts of all files before the first file is replaced, so after an error no file is changed.
     for file, text in {file: changed(file, name, key) for file in files}.items():

@@ -35,11 +35,10 @@ def shaken(nodes: list[int], links: Iterable[Collection[int]], word: str, seed: 
 
 
 def longest_start(nodes: list[int], links: Iterable[Collection[int]]) -> list[Registers]:
-    """Returns registers for all nodes of a network, with these nodes and links. A run from these registers takes long.
-    From the registers of a crowd a run may take the most moves, and from those of halves the most rounds. In other
-    networks m is true at each node. A node points at a higher neighbour if it has one. Otherwise the node points at a
-    lower one that doesn't point back, or at none. No other registers have a greater potential, from which the bound on
-    moves follows."""
+    """Returns registers for all nodes of the network with these nodes and links. A run from these registers takes long:
+    in a crowd it may take the most moves, and in halves the most rounds. In other networks m is true at each node. A
+    node points at a higher neighbour if it has one. Otherwise the node points at a lower one that doesn't point back,
+    or at none. No other registers have a greater potential, from which the bound on moves follows."""
     pairs, order = pairs_of(links), sorted(nodes)
     for word, pointers in (("crowd", of_crowd), ("halves", of_halves)):
         placed = [(order[a - 1], order[b - 1]) for a, b in links_of_family(word, len(order))]

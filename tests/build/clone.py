@@ -10,6 +10,7 @@ import sys
 import tempfile
 import time
 import unittest
+from collections.abc import Callable
 from pathlib import Path
 
 TOP = Path(__file__).resolve().parents[2]
@@ -74,7 +75,8 @@ class InClone(unittest.TestCase):
     end."""
 
     def setUp(self) -> None:
-        """Makes the clone and the stand-in."""
+        """Makes the clone with the crates in CRATES, the stand-in in the folder `bin`, and the folder for temporary
+        files."""
         room = tempfile.TemporaryDirectory()
         self.addCleanup(room.cleanup)
         self.room = Path(room.name)
@@ -94,8 +96,8 @@ class InClone(unittest.TestCase):
             file.chmod(0o755)
 
     def environment(self, **more: str) -> dict[str, str]:
-        """Returns an environment in which `rt` is the stand-in, proofs come one after another, and no program is
-        named. The variables in `more` are added, or replace others."""
+        """Returns an environment in which `rt` is the stand-in, and proofs run one after another. The variables that
+        name a program, MML_PROGRAM and MML_HOST, are removed. The variables in `more` are added, or replace others."""
         kept = {name: it for name, it in os.environ.items() if name not in ("MML_PROGRAM", "MML_HOST", "RT_JOBS")}
         return {**kept, "PATH": f"{self.bin}:{os.environ['PATH']}", "TMPDIR": str(self.temporary),
                 "PYTHONDONTWRITEBYTECODE": "1", "RT_JOBS": "1", **more}
@@ -111,7 +113,7 @@ class InClone(unittest.TestCase):
 
     def start(self, *words: str | Path) -> subprocess.Popen[str]:
         """Starts a command of the clone as the leader of a group of processes, and waits until the stand-in has come to
-        the crate that the setting `waits` names. Returns its process. Fails if it ends before."""
+        the crate that the setting `waits` names. Returns the command's process. Fails if the command ends before."""
         (self.room / "pids").unlink(missing_ok=True)
         going = subprocess.Popen(words, cwd=self.clone, stdin=subprocess.DEVNULL, stdout=subprocess.PIPE, stderr=subprocess.PIPE,
                                  text=True, env=self.environment(), start_new_session=True)
@@ -122,8 +124,8 @@ class InClone(unittest.TestCase):
         return going
 
     def pids(self) -> list[int]:
-        """Returns the numbers of the waiting stand-in's process and its child's, or none if it hasn't waited yet. They
-        may have ended since."""
+        """Returns the numbers of two processes: the waiting stand-in and its child. They may have ended since. Returns
+        an empty list if the stand-in hasn't waited yet."""
         text = (self.room / "pids").read_text(encoding="utf-8") if (self.room / "pids").exists() else ""
         return [int(it) for it in text.split()]
 
@@ -133,9 +135,8 @@ class InClone(unittest.TestCase):
         self.wait_until(lambda: not is_there(self.pids()[0]))
         return str(error)
 
-    def wait_until(self, holds: object) -> None:
+    def wait_until(self, holds: Callable[[], object]) -> None:
         """Waits until the function `holds` returns a true value. Fails after a time limit."""
-        assert callable(holds)
         until = time.monotonic() + LIMIT
         while not holds():
             self.assertLess(time.monotonic(), until)

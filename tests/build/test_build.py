@@ -24,7 +24,9 @@ class Estimates(unittest.TestCase):
     """The order in which crates are proved, and the estimate of how long the remaining proofs take."""
 
     def test_the_proof_with_the_longest_chain_above_it_comes_first(self) -> None:
-        """A crate is proved after those below it. The crate with the longest chain above it comes first."""
+        """A crate is proved after those that it uses. Among the crates that can be proved next, the one with the
+        longest chain of proofs that wait for it comes first. `is_first` also holds if the chain is nearly as long as
+        the longest one."""
         self.assertEqual(chains(USES, SECONDS), {"a": 65.0, "b": 125.0, "c": 55.0, "d": 25.0, "e": 5.0})
         progress = Progress(USES, SECONDS, 1)
         for crate in "bacde":
@@ -54,7 +56,8 @@ class Estimates(unittest.TestCase):
 
     def test_the_processes_of_a_proof_and_the_proofs_at_once_by_processors(self) -> None:
         """As many proofs run side by side as are needed to occupy all processors with their processes. If a proof has
-        several processes, one more proof runs, since such a proof begins and ends with a single process."""
+        several processes, one more proof runs, since such a proof begins and ends with a single process. RT_JOBS
+        replaces the number of processors, and then each proof has one process."""
         with unittest.mock.patch.dict(os.environ, {"RT_JOBS": ""}):
             shares = [(number, jobs_of(number), at_once_of(number)) for number in (1, 2, 4, 6, 8, 16)]
         self.assertEqual(shares, [(1, 1, 1), (2, 1, 2), (4, 2, 3), (6, 3, 3), (8, 4, 3), (16, 4, 5)])
@@ -70,10 +73,12 @@ class Estimates(unittest.TestCase):
         progress.note("b", False, 20_000.0)
         # By the table, b takes 10,000 seconds, and the others 8,500 in all.
         self.assertAlmostEqual(progress.left(20_000.0) / 8_500, 2.0, delta=0.05)
+        # The proof of a takes much longer than expected. By the table, the other three take 7,500 seconds.
         progress.begun = {"a": 20_000.0}
         self.assertGreater(progress.left(2_000_000.0), 2 * 7_500)
 
     def test_each_crate_of_the_program_has_its_expected_time(self) -> None:
+        """Also checks that the program needs only some of the crates in `crates.txt`, and not `mml_server`."""
         crates = needed(["mml_host"])
         self.assertTrue(set(crates) < set(lines()))
         self.assertNotIn("mml_server", crates)
@@ -92,7 +97,7 @@ class Builds(InClone):
             file.touch()
         done = self.call("./mml")
         self.assertEqual((done.returncode, done.stdout), (0, "new\n"), done.stderr)
-        # All paths except for the crates' own folders and their folders `src`.
+        # All paths that the stand-in saw, except for the crates' own folders and their folders `src`.
         files = {it for it in (self.room / "seen").read_text(encoding="utf-8").splitlines() if it.count("/") != 1 and not it.endswith("src")}
         self.assertEqual(files, {
             ".git", "HANDLES", "crates", "crates.txt", "crates/low/src/lib.rt", "crates/low/specs", "crates/low/specs/Lib.antt",
@@ -109,6 +114,7 @@ class Builds(InClone):
         self.assertEqual(self.call("./mml", "build", RT_JOBS="2").returncode, 0)
         number = len(os.sched_getaffinity(0))
         told = [line.split() for line in (self.room / "processors").read_text(encoding="utf-8").splitlines()]
+        # The first run is that of all four crates, of which `mml_host` is the last.
         self.assertEqual(told[0], ["mml_host", "4", str(number)])
         each = {crate: int(processors) for crate, _, processors in told[1:]}
         # A proof that gets all processors sees twice as many, since `rt` takes half of those that it sees (tools/build/wide.py).
@@ -139,7 +145,8 @@ class Builds(InClone):
         self.wait_until(lambda: not [*self.temporary.iterdir(), *git.iterdir()])
 
     def test_the_clone_gets_each_library_that_rt_check_has_not_built(self) -> None:
-        """The clone gets the libraries. One that `rt check` built there, which has a stamp, stays."""
+        """The build copies its libraries into the clone. A library that `rt check` built there has a file `stamp`
+        beside it, and stays as it is."""
         for crate, stamp in (("low", "stamp"), ("left", "none")):
             for name in (f"{crate}.rlib/format", stamp):
                 file = self.clone / "crates" / crate / "out/rlib" / name
@@ -159,8 +166,8 @@ class Builds(InClone):
         self.assertTrue(done.stderr.endswith("\nmml: 4 of 4 crates proved\n"), done.stderr)
 
     def test_on_a_terminal_the_progress_is_one_line_that_is_written_over(self) -> None:
-        """The proof of `right` waits until two crates are proved, so that this line is seen. Then its process is
-        killed, so that the stand-in goes on."""
+        """The stand-in waits before the proof of `right`, so that the line about two proved crates is printed. Then the
+        child for which the stand-in waits is killed, so that the build continues."""
         self.set("waits", "right")
         ours, theirs = pty.openpty()
         going = subprocess.Popen(["./mml", "build"], cwd=self.clone, stdin=subprocess.DEVNULL, stdout=subprocess.DEVNULL, stderr=theirs,
@@ -184,7 +191,8 @@ class Builds(InClone):
         self.assertFalse(any("\n" in line for line in shown[:-1]), shown)
 
     def test_crates_that_do_not_depend_on_each_other_are_proved_side_by_side(self) -> None:
-        """Each has its own repository. The first and the last run of `rt` are those of the whole program."""
+        """Each of these crates is proved in its own repository. The first and the last run of `rt` are those of the
+        whole program."""
         self.set("meets", "left right")
         done = self.call("./mml", "build", RT_JOBS="2")
         self.assertEqual(done.returncode, 0, done.stderr)
@@ -205,8 +213,8 @@ class Builds(InClone):
         self.assertEqual(self.call("./mml").stdout, "new\n")
 
     def test_if_rt_is_too_old_to_keep_proofs_there_is_one_run(self) -> None:
-        """An older `rt` doesn't print that it keeps nothing, but proves each crate in each run. Its files lack the words
-        `is kept`. The only run isn't stopped, and is given all processors."""
+        """An older `rt` doesn't print that it keeps nothing, but proves each crate in each run. The build recognises it
+        by its files, which lack the words `is kept`. The only run isn't stopped, and is given all processors."""
         rt = self.bin / "rt"
         text = rt.read_text(encoding="utf-8").replace("is kept", "proved").replace('"1000" if here.name == "1" else', "")
         rt.write_text(text, encoding="utf-8")
@@ -255,7 +263,7 @@ class Builds(InClone):
         self.wait_for_end(going)
         self.assertFalse(is_there(rt))
         self.assertEqual(going.returncode, 128 + signal.SIGKILL)
-        self.assertEqual(len([*self.temporary.iterdir()]), 2)
+        self.assertEqual(len([*self.temporary.iterdir()]), 2)  # The killed build couldn't remove its folders.
         self.set("waits", "")
         self.assertEqual(self.call("./mml", "build").returncode, 0)
         self.assertEqual([*self.temporary.iterdir()], [])

@@ -16,6 +16,7 @@ PROGRAM = f"""#!/bin/sh
 ! grep -q refused "$2" || {{ echo "lab fault: 3" >&2; exit 2; }}
 echo "ok: 4 nodes, 4 students"
 """
+# The first arguments of each `./class new`, and the files and the folder that it makes if they are the only ones.
 WORDS = ("maths.toml", "--students", "names.txt")
 FIRST = ("maths.toml", "maths-slips.html", "maths-slips", "maths-slips.csv", "maths-teacher.slip")
 
@@ -24,7 +25,7 @@ class SetsUp(InClone):
     """Calls of `./class` in a clone whose `rt` is a stand-in."""
 
     def setUp(self) -> None:
-        """Adds `./class` and a list of four students to the clone. The program that it builds is PROGRAM."""
+        """Adds `./class` and a list of four students to the clone, and lets the stand-in for `rt` build PROGRAM."""
         super().setUp()
         shutil.copy(TOP / "class", self.clone / "class")
         shutil.copytree(TOP / "classroom", self.clone / "classroom", ignore=shutil.ignore_patterns("__pycache__"))
@@ -32,11 +33,12 @@ class SetsUp(InClone):
         self.set("program", PROGRAM)
 
     def made(self) -> list[str]:
-        """Returns the names of the files that `./class new` has made."""
+        """Returns the names of the files and folders that `./class new` has made. All of them begin with `maths`."""
         return sorted(it.name for it in self.clone.glob("maths*"))
 
     def new(self, *words: str, **more: str) -> subprocess.CompletedProcess[str]:
-        """Runs `./class new` with these arguments, and `more` in its environment, to its end. Returns its result."""
+        """Runs `./class new` with the arguments WORDS and `words`, and with `more` in its environment. Returns its
+        result."""
         return self.call("./class", "new", *WORDS, *words, **more)
 
     def test_a_command_builds_the_program_and_then_does_its_work(self) -> None:
@@ -47,6 +49,7 @@ class SetsUp(InClone):
         self.assertRegex(done.stderr, r"^mml: building mml_host, after proving 4 crates; .*\nmml: if nothing is proved yet, that takes ")
         self.assertIn("\nmml: 4 of 4 crates proved\n", done.stderr)
         self.assertEqual(self.made(), sorted(FIRST))
+        # `./class new` doesn't overwrite files.
         for name in set(FIRST) - {"maths-slips"}:
             (self.clone / name).unlink()
         shutil.rmtree(self.clone / "maths-slips")
@@ -56,10 +59,11 @@ class SetsUp(InClone):
     def test_help_the_version_and_wrong_arguments_build_nothing(self) -> None:
         for words in (("--help",), ("--version",), ("new", "--help"), ("new",), ("demo", "more")):
             self.assertNotIn("building", self.call("./class", *words).stderr, words)
-        self.assertFalse((self.room / "words").exists())
+        self.assertFalse((self.room / "words").exists())  # The stand-in for `rt` makes this file if it is called.
 
     def test_if_the_build_fails_no_command_does_anything(self) -> None:
-        """Each command that needs the program builds it first."""
+        """Each command that needs the program tries to build it first. If that fails, the command prints an error, and
+        no file is left except the log of the build."""
         self.set("fails", "low")
         before = sorted(self.clone.rglob("*"))
         for words in (("new", *WORDS), ("check", "it.toml"), ("run", "it.toml"), ("attach", "it"), ("slips", "it.toml"), ("key", "it.toml", "ana"),
@@ -72,14 +76,15 @@ class SetsUp(InClone):
         self.assertEqual(sorted(self.clone.rglob("*")), before)
 
     def test_without_rt_a_command_recommends_a_release(self) -> None:
-        """Without `rt` the message names the command that makes a release, and its requirements."""
+        """The message names the requirements of a release, and the command that makes one."""
         done = self.new(PATH="/usr/bin:/bin")
         self.assertEqual((done.returncode, done.stdout, self.made()), (1, "", []))
         self.assertIn("mml: a release runs without it, on x86_64 Linux with Bash, and Python 3.11 for ./class", done.stderr)
         self.assertIn("./release makes one in a clone where rt is", done.stderr)
 
     def test_a_signal_ends_the_build_and_the_command_leaves_nothing(self) -> None:
-        """A signal ends the build and the command, which leaves nothing. The next command continues the build."""
+        """The signal comes while the stand-in waits before the proof of `right`. It ends the build and the command, and
+        no file is left. The next command continues the build."""
         for number, is_group in ((signal.SIGINT, True), (signal.SIGINT, False), (signal.SIGTERM, False)):
             self.set("waits", "right")
             going = self.start("./class", "new", *WORDS)
@@ -94,13 +99,15 @@ class SetsUp(InClone):
         self.assertEqual(self.made(), sorted(FIRST))
 
     def test_programs_that_the_environment_names_are_not_built(self) -> None:
-        """Programs that the environment names aren't built. If the named programs don't exist, nothing is made."""
+        """If MML_PROGRAM and MML_HOST name programs, nothing is built. Here one of these programs doesn't exist, so the
+        command prints an error and makes no file."""
         done = self.new(MML_PROGRAM=str(self.room / "none"), MML_HOST="/bin/true")
         self.assertEqual((done.returncode, done.stdout, self.made()), (1, "", []))
         self.assertIn("mml isn't built", done.stderr)
-        self.assertFalse((self.room / "words").exists())
+        self.assertFalse((self.room / "words").exists())  # The stand-in for `rt` makes this file if it is called.
 
     def test_if_one_of_several_labs_is_refused_none_is_left(self) -> None:
+        """`./class new` makes two labs. PROGRAM refuses the one that has the student `refused`."""
         (self.clone / "names.txt").write_text("".join(f"student{number}\n" for number in range(7)) + "refused\n", encoding="utf-8")
         done = self.new("--groups", "2")
         self.assertEqual((done.returncode, done.stdout, self.made()), (2, "", []))

@@ -35,8 +35,9 @@ class Chains(unittest.TestCase):
         self.assertEqual(chain.chain(without, "top"), ["slow", "top"])
 
     def test_the_tables_have_the_waits_and_times_of_each_proof(self) -> None:
-        """The time of waiting for a processor has its own column. Without an argument the chain of the last crate
-        is printed."""
+        """A row has a crate of the chain, the seconds that its proof waited for a free processor, the seconds that it
+        took, the second at which it ended, and its processor time. If no crate is named, the table is that of the chain
+        to the crate that was proved last. Also checks the line about this chain, and the list of all processor times."""
         rows = [line.split() for line in chain.chain_tables(SPANS, ["top"]).splitlines()[1:]]
         self.assertEqual(rows, [["low", "0", "100", "100", "99"], ["slow", "0", "300", "400", "280"], ["top", "10", "40", "450", "39"],
                                 ["sum", "10", "440", "450", "418"]])

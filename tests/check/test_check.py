@@ -83,7 +83,7 @@ class Words(InTree):
 class Outcomes(InTree):
     """What makes a check fail."""
 
-    def failing(self, line: str) -> str:
+    def check_fails_with(self, line: str) -> str:
         """Runs a check with a part that succeeds and a part that is the shell line `line`. Checks that this part, and
         so the whole check, fails. Returns what the check prints."""
         self.stand_in(part("well", WELL), part("other", line))
@@ -93,17 +93,17 @@ class Outcomes(InTree):
         return done.stdout
 
     def test_a_part_fails_by_its_status_a_signal_or_a_failed_test(self) -> None:
-        said = self.failing("echo the reason why; echo 12 calls; exit 1")
+        said = self.check_fails_with("echo the reason why; echo 12 calls; exit 1")
         self.assertIn("the reason why\n", said)
-        self.failing("exit 1")
-        self.failing("echo 12 calls; kill -9 $$")
-        self.failing("echo 0 passed, 1 failed; exit 1")
+        self.check_fails_with("exit 1")
+        self.check_fails_with("echo 12 calls; kill -9 $$")
+        self.check_fails_with("echo 0 passed, 1 failed; exit 1")
 
     def test_a_part_fails_if_it_runs_no_test(self) -> None:
         for line in (":", "echo", "echo all is well", "echo 0 calls", "echo 0 passed, 0 failed",
                      "echo 'Ran 0 tests in 0.001s'; echo; echo OK",
                      "echo 'Ran 2 tests in 0.001s'; echo; echo 'OK (skipped=2)'"):
-            self.assertIn("no test ran", self.failing(line))
+            self.assertIn("no test ran", self.check_fails_with(line))
 
     def test_counts_are_added(self) -> None:
         self.stand_in(part("well", WELL), proofs="echo 40 passed, 0 failed", wrong="echo 20 passed, 2 failed; exit 1")
@@ -118,9 +118,9 @@ class Outcomes(InTree):
         self.assertIn("not done, since the proofs failed: well, wrong\n", done.stdout)
 
     def test_a_missing_tool_is_named_with_its_debian_package(self) -> None:
-        """The parts that need the tool are left out. With the variable CI nothing may be left out, so the check tries
-        to install the package (as root, here by a false `apt-get`), and then fails. It also fails if no part is
-        left."""
+        """The parts that need the tool are left out. A part that `likes` it runs, without those of its tests that need
+        it. With the variable CI nothing may be left out, so the check tries to install the package (as root, here by a
+        false `apt-get`), and then fails. The check also fails if no part is left."""
         self.stand_in(part("well", WELL), part("needy", WELL, needs=("nothing",)), part("choosy", WELL, likes=("nothing",)))
         bin = self.room / "bin"
         bin.mkdir()
@@ -204,8 +204,8 @@ class Ends(InTree):
     """A check that is ended, and two at once."""
 
     def check_ended_by(self, number: signal.Signals, whole_group: bool) -> None:
-        """Sends this signal to the process of a running check, or to its group if `whole_group` is set. Checks the status
-        and the last lines of the check, and that nothing is left of it."""
+        """Sends this signal to the process of a running check, or to its group if `whole_group` is set. Checks the
+        status and the last lines of the check, and that nothing is left of it."""
         for name in ("begun", "pids"):
             (self.room / name).unlink(missing_ok=True)
         self.stand_in(part("well", WELL), part("on", GOES_ON))
@@ -250,8 +250,9 @@ class Ends(InTree):
         self.assertEqual(self.check("quick").returncode, 0)
 
     def kill_check(self, kill: Callable[[int], None]) -> int:
-        """Starts a check, and calls `kill`, which kills a process or a group, with the number of the check's process. Checks that
-        nothing is left of the check, and that the next one passes. Returns the status of the killed check."""
+        """Starts a check, and calls `kill`, which kills a process or a group, with the number of the check's process.
+        Checks that nothing is left of the check, and that the next one passes. Returns the status of the killed
+        check."""
         for name in ("begun", "pids"):
             (self.room / name).unlink(missing_ok=True)
         self.stand_in(part("on", GOES_ON))

@@ -29,7 +29,8 @@ def name_of(file: Path) -> str:
 
 
 def height(module: str) -> int:
-    """Returns the level of a module, which is that of its package: a module may import from lower levels."""
+    """Returns the level of a module: the place of its package in PACKAGES, -1 for the modules below all packages, or a
+    number above all places for TOPMOST. A module may import from its own level and from lower ones."""
     if module in (BOTTOM, "classroom"):
         return -1
     return len(PACKAGES) if module == TOPMOST else PACKAGES.index(module.split(".")[1])
@@ -68,12 +69,12 @@ def imported(module: str, known: Sources) -> list[str]:
 
 
 def circle(uses: dict[str, list[str]]) -> list[str]:
-    """Returns a cycle of imports as a list of modules, or an empty list if there is no cycle. `uses` has the imports of
-    each module."""
+    """Returns a cycle of imports as a list in which each module imports the next one, or an empty list if there is no
+    cycle. `uses` has the imports of each module."""
     try:
         TopologicalSorter(uses).prepare()
     except CycleError as error:
-        return [*error.args[1]][::-1]
+        return [*error.args[1]][::-1]  # The error has the imported module before the one that imports it.
     return []
 
 
@@ -111,13 +112,13 @@ class Imports(unittest.TestCase):
             ("client", "from classroom.core.lab import read", "classroom.core.lab"),
         )
         for name, line, target in above:
-            self.assertEqual(self.planted(name, line), [f"classroom.{name} imports {target}: that is above it"], line)
-        self.assertEqual(self.planted("run.run", "from tests.model import lab"),
+            self.assertEqual(self.faults_with(name, line), [f"classroom.{name} imports {target}: that is above it"], line)
+        self.assertEqual(self.faults_with("run.run", "from tests.model import lab"),
                          ["classroom.run.run imports tests.model: that isn't a part of what is released"])
-        self.assertEqual(self.planted("core.lab", "importlib.import_module(f'classroom.{name}')"), ["classroom.core.lab imports what only a run shows"])
+        self.assertEqual(self.faults_with("core.lab", "importlib.import_module(f'classroom.{name}')"), ["classroom.core.lab imports what only a run shows"])
 
     def test_a_circle_of_imports_is_a_fault(self) -> None:
-        found = self.planted("run.closing", "if TYPE_CHECKING:\n    from classroom.run.desk import Desk")
+        found = self.faults_with("run.closing", "if TYPE_CHECKING:\n    from classroom.run.desk import Desk")
         self.assertEqual(len(found), 1)
         self.assertRegex(found[0], r"^a circle of imports: (?=.*classroom\.run\.closing classroom\.run\.desk)")
 
@@ -129,8 +130,8 @@ class Imports(unittest.TestCase):
         self.assertEqual({it.suffix for it in files if it.parent.name == "pages"}, {".py", *OF_PAGES})
         self.assertEqual({it.suffix for it in files if it.parent.name != "pages"}, {".py"})
 
-    def planted(self, name: str, line: str) -> list[str]:
-        """Returns the error texts about the sources of `classroom` after a line is added to the text of the module
+    def faults_with(self, name: str, line: str) -> list[str]:
+        """Returns the error texts about the sources of `classroom`, with a line added to the text of the module
         `name`."""
         known = sources()
         known[f"classroom.{name}"] += f"\n{line}\n"

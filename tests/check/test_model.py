@@ -25,7 +25,7 @@ class Model(unittest.TestCase):
     def test_the_model_is_short(self) -> None:
         lines = sum(len(file.read_text(encoding="utf-8").splitlines()) for file in MODULES)
         self.assertLess(lines, MOST_LINES)
-        self.assertGreater(len(MODULES), 9)
+        self.assertGreater(len(MODULES), 9)  # Otherwise the modules weren't found.
 
     def test_the_model_imports_only_itself_and_the_standard_library(self) -> None:
         for file in MODULES:
@@ -41,7 +41,8 @@ class Model(unittest.TestCase):
         world = (TOP / "model/world.py").read_text(encoding="utf-8")
         for rule in ("Update", "Marriage", "Seduction", "Abandonment"):
             self.assertEqual(len(re.findall(rf"(?m)^ +# {rule}\b", world)), 2, f"{rule}: a guard and an effect")
-        # Each denial is returned once, below the comment of its clause. `not-greeted` is that of `run`.
+        # Each denial is returned once, below the comment of its clause. `not-greeted` is returned in the module `run`,
+        # and all others in `policy`.
         found = []
         for name in ("policy", "run"):
             clause = ""
@@ -89,6 +90,16 @@ class Called(unittest.TestCase):
         stored.write_text(right, encoding="ascii")
         self.assertEqual(self.call("--all")[0], 0)
         self.assertFalse(new.exists())
+
+    def test_a_script_with_a_bad_line_is_a_failure_even_if_no_output_differs(self) -> None:
+        script = self.room / "examples/path-run.script"
+        lines = len(script.read_text(encoding="ascii").splitlines())
+        with script.open("a", encoding="ascii") as it:
+            it.write("no line of a script\n")
+        status, out, error = self.call("--all")
+        self.assertEqual((status, error), (1, ""))
+        self.assertIn(f"examples/path-run.script: line {lines + 1} isn't a line of a script\n", out)
+        self.assertRegex(out, r"scripts were played; 0 outputs differ from the stored files\n$")
 
     def test_wrong_command_lines_and_missing_files_have_their_errors(self) -> None:
         lab, journal = self.room / "examples/path.toml", self.room / "journal"

@@ -56,7 +56,8 @@ class Figures(unittest.TestCase):
     """The table of times at the end."""
 
     def test_the_table_has_the_processor_minutes_of_each_crate_and_kind(self) -> None:
-        """`works` has the crate and the kind of each process of the prover, and `used` its seconds."""
+        """`works` has the crate of each process of the prover, and what the process is for: proofs, tests or wrong
+        bodies. `used` has its seconds. The parts other than `proofs` and `wrong` are listed as scripts."""
         checks = Checks()
         for pid, work, seconds in ((1, ("one", "proof"), 60.0), (2, ("one", "wrong"), 30.0), (3, ("two", "tests"), 90.0), (4, ("one", "proof"), 6.0)):
             checks.works[pid, "0"] = work

@@ -7,6 +7,7 @@ import subprocess
 import tempfile
 import time
 import unittest
+from collections.abc import Callable
 from pathlib import Path
 
 TOP = Path(__file__).resolve().parents[2]
@@ -71,15 +72,15 @@ class InTree(unittest.TestCase):
         return {**kept, "TMPDIR": str(self.temporary), "ROOM": str(self.room), **more}
 
     def check(self, *words: str, program: str = "check", **more: str) -> subprocess.CompletedProcess[str]:
-        """Runs the program of the tree, with these arguments and `more` in its environment, to its end. Checks that it
-        leaves nothing. Returns its result."""
+        """Runs the program `program` of the tree, with these arguments and `more` in its environment, to its end.
+        Checks that it leaves nothing. Returns its result."""
         done = self.check_beside(*words, program=program, **more)
         self.check_nothing_left()
         return done
 
     def check_beside(self, *words: str, program: str = "check", **more: str) -> subprocess.CompletedProcess[str]:
-        """Runs the program of the tree, with these arguments and `more` in its environment, to its end. Another check
-        may be running, or may have been killed and have left files. Returns its result."""
+        """Runs the program `program` of the tree, with these arguments and `more` in its environment, to its end.
+        Another check may be running, or may have been killed and have left files. Returns its result."""
         return subprocess.run(
             [self.tree / program, *words], cwd="/", stdin=subprocess.DEVNULL, capture_output=True, text=True,
             env=self.environment(**more), timeout=LIMIT, check=False,
@@ -103,9 +104,8 @@ class InTree(unittest.TestCase):
             self.fail(going.communicate()[0])
         return going
 
-    def wait_until(self, holds: object) -> None:
+    def wait_until(self, holds: Callable[[], object]) -> None:
         """Waits until the function `holds` returns a true value. Fails after a time limit."""
-        assert callable(holds)
         until = time.monotonic() + LIMIT
         while not holds():
             self.assertLess(time.monotonic(), until)

@@ -46,6 +46,7 @@ def started() -> Any:
     made: Any = Options  # Selenium's functions lack types, so its classes are called as `Any`.
     options = made()
     options.binary_location = "/usr/bin/chromium"
+    # The tests may run as root, for whom the sandbox doesn't work, and on a system with a small /dev/shm.
     for word in ("--headless=new", "--no-sandbox", "--disable-dev-shm-usage", "--window-size=1300,900"):
         options.add_argument(word)
     service: Any = Service

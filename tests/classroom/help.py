@@ -39,7 +39,7 @@ LIMIT = 300  # seconds after which a command counts as hanging; even a slow mach
 
 def call_class(*given: str | Path, typed: str | None = None, **more: str) -> subprocess.CompletedProcess[str]:
     """Runs `./class` with these arguments to its end, with `typed` as its input and `more` in its environment. Returns
-    its result."""
+    its result. Raises an error if it takes longer than LIMIT seconds."""
     return subprocess.run(
         [sys.executable, TOP / "class", *given], input=typed or "", capture_output=True, text=True, check=False,
         env={**os.environ, **more}, timeout=LIMIT,
@@ -51,7 +51,7 @@ def a_port() -> int:
     while True:
         port = random.randint(20000, 32000)
         with socket.socket() as it:
-            it.setsockopt(socket.SOL_SOCKET, socket.SO_REUSEADDR, 1)  # As in a server, a connection that has ended is no error.
+            it.setsockopt(socket.SOL_SOCKET, socket.SO_REUSEADDR, 1)  # As for a server, a connection that has ended doesn't keep the port.
             try:
                 it.bind(("127.0.0.1", port))
             except OSError:
@@ -76,8 +76,8 @@ def wait_until(holds: Callable[[], object], what: str = "") -> None:
 
 
 def stop(process: int) -> None:
-    """Stops a process by a signal, and waits until all its threads are stopped. A thread that waits for a processor
-    would still answer."""
+    """Stops a process by the signal SIGSTOP, and waits until all its threads are stopped. Until then, one of them could
+    still answer a request."""
     os.kill(process, signal.SIGSTOP)
     while any(state(task) != "T" for task in Path(f"/proc/{process}/task").iterdir()):
         time.sleep(0.01)
@@ -113,10 +113,12 @@ class Going:
                  **environment: str) -> None:
         """Starts `./class run` with this lab, a free port and the options `more`. Without a lab, `more` are all
         arguments of `./class`. `before` is a command that gets this call as its last arguments, and `environment` is
-        added to the environment. Reads the printed lines up to one that matches `ready`."""
+        added to the environment. Reads the printed lines up to one that matches `ready`. The run is ended after the
+        test."""
         self.lines: list[str] = []
         words: list[str | Path] = ["run", lab, "--into", test.room / "runs", "--port", str(a_port()), *more] if lab else [*more]
         self.process = subprocess.Popen(
+            # With `--typed` the run reads commands from its input, although this isn't a terminal.
             [*before, sys.executable, TOP / "class", *words, "--typed"],
             stdin=subprocess.PIPE, stdout=subprocess.PIPE, stderr=subprocess.STDOUT, text=True,
             env={**os.environ, **environment},
@@ -135,15 +137,16 @@ class Going:
         raise AssertionError(f"no {pattern} in {self.lines}")
 
     def until_each(self, *patterns: str) -> None:
-        """Reads lines until each of these patterns has matched one, in any order."""
+        """Reads lines until each of these patterns has matched one, in any order. Raises an error if the run ends
+        before."""
         left = list(patterns)
         while left:
             line = self.until("|".join(left))
             left = [pattern for pattern in left if not re.search(pattern, line)]
 
     def read(self) -> Iterator[str]:
-        """Yields the next lines of the run's output. Ends the run if the caller hasn't got its line after LIMIT
-        seconds."""
+        """Yields the next lines of the run's output until the caller needs no more. Ends the run if this takes longer
+        than LIMIT seconds."""
         assert self.process.stdout is not None
         late = threading.Timer(LIMIT, self.process.terminate)
         late.start()
@@ -186,16 +189,17 @@ class Going:
             if pipe is not None and not pipe.closed:
                 try:
                     pipe.close()
-                except OSError:
+                except OSError:  # Closing the input sends what its buffer still has, but the run has ended.
                     pass
 
 
 class Rows:
-    """The lines that the page to play receives after a hello. `bytes` has all bytes that came, with those of the
-    headers."""
+    """The lines that the page on which a student plays by hand receives after a hello. `bytes` has all bytes that came,
+    with those of the headers."""
 
     def __init__(self, address: str, name: str, key: str) -> None:
-        """Sends the hello of a student to the page's server at an address."""
+        """Sends the hello of a student to the page's server at an address. Raises an error if the answer's status isn't
+        200."""
         parts = urlsplit(address)
         self.connection = http.client.HTTPConnection("127.0.0.1", parts.port or 0, timeout=LIMIT)
         self.connection.request("POST", "/enter", json.dumps({"name": name, "key": key}), {"Host": parts.netloc})
@@ -263,10 +267,11 @@ class InTerminal:
 
 
 class Cycle(InRoom):
-    """Runs of the cycle of `examples/`, or of a lab with its students."""
+    """Runs of the cycle of `examples/`, or of another lab with the same students."""
 
     def bot(self, going: Going, name: str, *command: str | Path) -> subprocess.Popen[bytes]:
-        """Starts the bot of a student in a run, by default the example in Python. Returns its process."""
+        """Starts the bot of a student in a run, and returns its process. `command` starts the bot, and gets the
+        student's slip as its last argument. By default it is the example in Python."""
         bot = subprocess.Popen(
             [*(command or (sys.executable, EXAMPLES / "bot.py")), self.slip(going.port, name)],
             stdin=subprocess.DEVNULL, stdout=subprocess.DEVNULL, stderr=subprocess.DEVNULL,

@@ -48,7 +48,8 @@ def is_call_of(node: ast.AST, names: tuple[str, ...]) -> bool:
 
 
 def texts(node: ast.AST) -> Iterator[str]:
-    """Yields the texts in a node of a source. Leaves out docstrings, regular expressions and the help of options."""
+    """Yields the texts in a node of a source. Leaves out docstrings, and the texts in calls of NOT_LINES, which are
+    regular expressions, the help of options, and forms of dates."""
     for child in ast.iter_child_nodes(node):
         is_text = isinstance(child, ast.JoinedStr) or isinstance(child, ast.Constant) and isinstance(child.value, str)
         if isinstance(child, (ast.JoinedStr, ast.Constant)) and is_text:
@@ -62,11 +63,12 @@ class Page(HTMLParser):
     """The texts of a page: those that it shows, and those for screen readers."""
 
     def __init__(self) -> None:
+        """Begins without texts."""
         super().__init__()
         self.found: list[str] = []
 
     def handle_data(self, data: str) -> None:
-        """Keeps a text between tags."""
+        """Keeps a text between tags, with one space in place of each run of spaces and newlines."""
         self.found.append(" ".join(data.split()))
 
     def handle_starttag(self, tag: str, attrs: list[tuple[str, str | None]]) -> None:
@@ -75,7 +77,8 @@ class Page(HTMLParser):
 
 
 def literals(source: str) -> Iterator[str]:
-    """Yields the texts in a source of another language than Python. Leaves out comments."""
+    """Yields the texts in a source of another language than Python, with `{}` for each value. Leaves out what COMMENTS
+    matches: comments, and lines for the compiler or the prover."""
     for found in LITERALS.finditer(COMMENTS.sub("", source)):
         # One of the two groups, for texts in double quotes and in backquotes, is None. A backslash joins two lines.
         yield VALUE.sub("{}", next(text for text in (*found.groups(), "") if text is not None).replace("\\\n", ""))
@@ -96,7 +99,7 @@ def texts_of(file: Path) -> Iterator[str]:
 
 def lines() -> list[str]:
     """Returns the lines of the table in order. Each has the path of a source (without `.py` if it is Python) and a text
-    that looks like words of a person and not like markup or a style."""
+    that looks like words of a person and not like markup or a style. The sources NO_SOURCES are left out."""
     found = set()
     for file in {file for pattern in SOURCES for file in TOP.glob(pattern)}:
         name = file.relative_to(TOP).as_posix()

@@ -28,7 +28,8 @@ class Machine:
 
 
 def can_be_made() -> bool:
-    """Returns whether machines can be made on this system."""
+    """Returns whether machines can be made here: by root, with the programs that this needs, on a system that allows
+    it."""
     if os.geteuid() != 0 or not all(map(shutil.which, ("ip", "unshare", "nsenter"))):
         return False
     return subprocess.run(["unshare", "--net", "true"], check=False, capture_output=True).returncode == 0
@@ -37,7 +38,7 @@ def can_be_made() -> bool:
 @contextmanager
 def two() -> Iterator[tuple[Machine, Machine]]:
     """Yields the teacher's machine and that of the students, joined by a cable. Each lasts as long as a sleeping
-    process, which is killed at the end."""
+    process, which is killed at the end. Raises an error if they can't be made."""
     holders = [subprocess.Popen(["unshare", "--net", "sh", "-c", "echo; exec sleep 100000"], stdout=subprocess.PIPE) for _ in range(2)]
     try:
         for it in holders:

@@ -14,7 +14,8 @@ STUDENTS = (("ana", "a-key"), ("ben", "b-key"))
 
 
 def journal_of(lab: Path, script: Path, journal: Path) -> Path:
-    """Writes the journal of a script for a lab, and returns its path."""
+    """Runs a script, a file of requests, with this lab. Writes the run's journal to the path `journal`, and returns
+    this path. Raises an error if the program fails."""
     subprocess.run([PROGRAM, "script", lab, script, journal], stdout=subprocess.DEVNULL, check=True)
     return journal
 

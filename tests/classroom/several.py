@@ -25,14 +25,14 @@ class GoingClass(Going):
 
     def __init__(self, test: InRoom, *more: str | Path, **environment: str) -> None:
         """Starts a class by these arguments of `./class`, with `environment` added to the environment. Reads up to the
-        line with the commands of its desk."""
+        line with the commands of its desk. After the test all processes of the class are killed."""
         self.lines: list[str] = []
         self.process = subprocess.Popen(
             [sys.executable, TOP / "class", *more, "--typed"], stdin=subprocess.PIPE, stdout=subprocess.PIPE,
             stderr=subprocess.STDOUT, text=True, env={**os.environ, **environment},
         )
         test.addCleanup(self.close)
-        test.addCleanup(self.end_servers)
+        test.addCleanup(self.kill_processes)
         told = re.search(r"^class of \d+ networks?; folder (.*)$", self.until("^class of "))
         assert told is not None
         self.folder = Path(told[1])
@@ -59,7 +59,7 @@ class GoingClass(Going):
         run: dict[str, int] = json.loads((self.folder / name / "marks.json").read_text(encoding="utf-8"))["runs"][0]
         return run
 
-    def end_servers(self) -> None:
+    def kill_processes(self) -> None:
         """Kills the desk, the servers and the processes of the runs, as far as they haven't ended."""
         if self.process.poll() is None:
             self.process.kill()

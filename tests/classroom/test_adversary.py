@@ -1,6 +1,7 @@
-"""The daemons that make runs long: the adversary, which searches ahead, and the schedule, a fixed order of moves. The
-search tries moves in a program of its own, its *bench*, and leaves the registers there as they were. A *worst* start is
-one from which runs are especially long."""
+"""The daemons that make runs long: the adversary, which searches ahead, and the schedule, a fixed order of moves. A
+*daemon* decides when a step is closed, and which of the granted moves are applied then. The search tries moves in a
+program of its own, its *bench*, and leaves the registers there as they were. A node is *privileged* if a rule can be
+applied at it. A *worst* start is one from which runs are especially long."""
 from __future__ import annotations
 
 import random
@@ -21,7 +22,8 @@ from tests.classroom.help import CYCLE, EXAMPLES, KEYS, Cycle, Going, call_class
 
 
 def rows(daemon: str, family: str, nodes: int, seeds: range) -> list[Row]:
-    """Returns the rows of runs of an experiment under a daemon, one for each seed."""
+    """Returns the rows of an experiment's table for runs under a daemon, one for each seed. The runs begin with random
+    registers."""
     return [row for row, _ in runs(Setting(family, nodes, Daemon.of(daemon), "random"), list(seeds))]
 
 
@@ -29,7 +31,8 @@ class Search(unittest.TestCase):
     """The search by itself, without a run."""
 
     def adversary_for(self, made: labs.Lab) -> tuple[Adversary, list[int]]:
-        """Returns an adversary whose bench has this network with the registers of the lab, and the privileged nodes."""
+        """Returns an adversary whose bench has the network and the registers of the lab `made`, and the nodes that are
+        privileged then."""
         it = Adversary("test")
         self.addCleanup(it.close)
         report = it.bench_over(made).begin(made)
@@ -43,12 +46,13 @@ class Search(unittest.TestCase):
         assert bench is not None
         before = [(node.id, node.p, node.m) for node in made.nodes]
         report = bench.begin(made)
-        it.registers = {node: (p, m) for node, p, m in before}
+        it.registers = {node: (p, m) for node, p, m in before}  # the values that `value_of` sets again
         for nodes in ([privileged[0]], [privileged[-1]], privileged):
             it.value_of(bench, report, nodes, 3)  # Tries these moves and at most two more steps, and undoes all of them.
             self.assertEqual([(node.id, node.p, node.m) for node in bench.present().nodes], before)
             self.assertEqual(it.registers, {node: (p, m) for node, p, m in before})
-        # The search has set the number in `report` to that of the present configuration, so a move is granted.
+        # The search has set the number in `report` to that of the present configuration, so a move is granted. If the
+        # move is a marriage, `min` chooses the partner.
         self.assertTrue(bench.step(report, [privileged[0]], min))
 
     def test_it_chooses_one_or_all_of_those_that_may_move_and_the_same_again(self) -> None:
@@ -73,6 +77,7 @@ class Search(unittest.TestCase):
         self.assertEqual(len(it.choose(made, [2, 1])), 1)
 
     def test_a_new_bench_is_started_when_events_are_used_up_or_links_differ(self) -> None:
+        """The process of the bench that it replaces is ended."""
         made = drawn(Setting("path", 4, Daemon("central"), "random"), 1)
         it, privileged = self.adversary_for(made)
         first = it.bench
@@ -110,7 +115,8 @@ class Long(unittest.TestCase):
         self.assertGreaterEqual(search, schedule)
 
     def test_runs_have_over_five_percent_more_moves_than_under_a_central_daemon(self) -> None:
-        """Both daemons get the same seeds, and so the same networks and registers."""
+        """These are the runs under the adversary. Both daemons get the same seeds, and so the same networks and
+        registers."""
         for family, nodes in (("complete", 5), ("cycle", 6)):
             central, worse = (rows(daemon, family, nodes, range(1, 9)) for daemon in ("central", "adversary"))
             self.assertTrue(all(row.stable and not row.exceeds_bounds() for row in worse))
@@ -124,12 +130,12 @@ class Long(unittest.TestCase):
         with unittest.mock.patch.object(Row, "exceeds_bounds", lambda row: True):
             (row, script), = runs(setting, [3])
         self.assertEqual(script.count(b'"do": "close"'), row.closes)
-        self.assertEqual(script.count(b'"do": "see"'), 0)
+        self.assertEqual(script.count(b'"do": "see"'), 0)  # By these requests the registers are read before each search.
 
-    def test_the_two_daemons_choose_by_a_search_and_the_schedule_by_rules_and_numbers(self) -> None:
+    def test_both_daemons_call_a_search_and_that_of_the_schedule_needs_only_rules_and_numbers(self) -> None:
         """`applied` calls the search as soon as each privileged node has a granted move, or none was granted for a
         second. A `Sight` has the privileged nodes, the granted moves, and the seconds since the last grant and the last
-        close. The schedule needs no network."""
+        close. `movers` calls the search at once, as in an experiment."""
         self.assertEqual(Daemon.of("adversary").spelled(), "adversary")
         chance, full = random.Random(1), Sight([1, 2], [2, 1], 0.0, 0.0)
         self.assertEqual(applied(Daemon("adversary"), full, chance, 1, lambda nodes: [nodes[0]]), [2])
@@ -185,6 +191,8 @@ class Everywhere(Cycle):
         self.assertIn("passed  bot.py: one, daemon adversary, seed 1;", done.stdout)
 
     def test_if_its_search_fails_steps_are_closed_by_another_daemon(self) -> None:
+        """The desk prints why the search failed, and changes to the daemon `when-idle:2`, which closes the step
+        later."""
         report = unittest.mock.Mock(privileged=[(1, "update"), (2, "update")])
         desk = unittest.mock.Mock(closing=Daemon("adversary"), known=unittest.mock.Mock(news_came=0.0, report=report))
         desk.known.book.chosen = {1: ("ana", "update"), 2: ("ben", "update")}

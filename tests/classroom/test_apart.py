@@ -1,6 +1,7 @@
 """`./class grade` with bots that read files, copy or disturb other bots, and use up the disk. If the system allows it,
-bots are *kept apart*: each has its own namespaces. Otherwise one bot is tried after another. A bot's *fault* is the
-word by which `bots/faulty.py` plays it."""
+bots are *kept apart*: each has its own namespaces. Otherwise one bot is tried after another. All bots are
+`bots/faulty.py`, or copies of it. A bot's *fault* is its first argument, which says how the bot behaves. The fault
+`right` is none: the bot is correct."""
 from __future__ import annotations
 
 import json
@@ -72,7 +73,7 @@ class Apart(Grades):
         """It also passes its own cases, since it plays correctly and finds no other bot."""
         output = self.grades("right", "spoils")
         self.assertEqual([self.passed(output, fault) for fault in ("right", "spoils")], [3, 3], output)
-        self.assertNotIn("class: ", output)
+        self.assertNotIn("class: ", output)  # No line says that the bots aren't isolated.
 
     def test_a_bot_finds_no_program_of_another_to_copy(self) -> None:
         output = self.grades("right", "copies")
@@ -100,7 +101,7 @@ class Apart(Grades):
 
     def peeked(self, *bots: str, more: tuple[str | Path, ...] = ()) -> str:
         """Grades these bots, with the options `more`. The first one has the fault `peeks`: it prints what it could read
-        and do, and ends. Returns the line that it printed, from the reason for which its first case failed."""
+        and do, and ends. Returns the line that it printed, which the reason for its first failed case contains."""
         call: list[str | Path] = [sys.executable, TOP / "class", "grade", *bots, "--labs", self.room / "labs", "--daemon", "central",
                                   "--into", self.room / "grades", "--json", self.room / "cases.json", "--timeout", "60", *more]
         done = subprocess.run(call, stdin=subprocess.DEVNULL, capture_output=True, text=True, check=False, timeout=LIMIT)
@@ -112,7 +113,7 @@ class Apart(Grades):
         text = FAULTY.read_text(encoding="utf-8").replace(IMPORTED_FROM, repr(str(TOP)))
         for name in ("one.py", "two.py"):
             self.file(name, text)
-        words = spelled("1", self.room / "one.py", self.room / "two.py")
+        words = spelled("1", self.room / "one.py", self.room / "two.py")  # a port that isn't used, and the files
         output = self.peeked(f"python3 {self.room / 'one.py'} peeks {words}", f"python3 {self.room / 'two.py'} right")
         self.assertIn("read one.py: True; read two.py: False; write one.py: False; ", output)
 
@@ -120,7 +121,7 @@ class Apart(Grades):
         for name in ("library", "other"):
             (self.room / name).mkdir()
             (self.room / name / f"of-{name}").write_bytes(HIDDEN)
-        words = spelled("1", self.room / "library/of-library", self.room / "other/of-other")
+        words = spelled("1", self.room / "library/of-library", self.room / "other/of-other")  # a port that isn't used, and the files
         output = self.peeked(f"python3 {FAULTY} peeks {words}", more=("--show", self.room / "library"))
         self.assertIn("read of-library: True; read of-other: False; write of-library: False; ", output)
 

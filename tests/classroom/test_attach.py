@@ -2,17 +2,21 @@
 closed. The server is a process of its own, and goes on."""
 from __future__ import annotations
 
+import argparse
 import json
 import os
+import shutil
 import signal
 import time
 import unittest
+from dataclasses import replace
 from pathlib import Path
 
 from classroom.client import Client
-from classroom.core.folders import Process
-from classroom.core.program import host
-from tests.classroom.help import CLASS, CYCLE, KEYS, LIMIT, Cycle, Going, InTerminal, call_class, stop
+from classroom.core.folders import Process, Record
+from classroom.core.program import Fault, host
+from classroom.run.attach import attach
+from tests.classroom.help import CLASS, CYCLE, KEYS, LIMIT, Cycle, Going, InRoom, InTerminal, call_class, stop
 
 
 @unittest.skipUnless(host(), "not tried: no host is built")
@@ -133,8 +137,24 @@ class Attach(Cycle):
         self.assertEqual(going.end(), 0, going.lines)
         done = call_class("attach", going.folder)
         self.assertEqual((done.returncode, done.stderr), (
-            1, f"class: {going.folder}: the server of this run has ended. To continue the run, type: {CLASS} run --resume {going.folder}\n"))
+            1, f"class: {going.folder}: the server of this run has ended. To continue the run, type: {CLASS} run --resume {going.folder} --again\n"))
         self.assertEqual(call_class("attach", self.room / "none").returncode, 1)
+
+
+class Ended(InRoom):
+    """Folders of runs whose server has ended."""
+
+    def test_the_named_command_has_the_option_again_only_if_the_run_was_ended_on_purpose(self) -> None:
+        """`run --resume` refuses such a run without this option. A run whose server died, and one without `run.json`,
+        don't need the option."""
+        shutil.copy(CYCLE, self.room / "lab.toml")
+        self.file("journal", "")
+        resume = r"the server of this run has ended\. To continue the run, type: \S+ run --resume \S+"
+        for ended, option in ((None, ""), (False, ""), (True, " --again")):
+            if ended is not None:
+                replace(Record.default(self.room, 4711), ended=ended).write(self.room)
+            with self.subTest(ended=ended), self.assertRaisesRegex(Fault, f"{resume}{option}$"):
+                attach(argparse.Namespace(folder=str(self.room)))
 
 
 if __name__ == "__main__":

@@ -34,8 +34,8 @@ class Broken(Cycle):
     """Runs that fail in some way, and runs with clients that fail or misbehave."""
 
     def lab(self, name: str, sessions: int) -> Path:
-        """Writes a copy of a lab of `examples/` in which `sessions`, the number of connections for the desk and the
-        clients, is this one. Returns its path."""
+        """Writes a copy of the lab of `examples/` with this file name, and returns its path. In the copy, the desk and
+        the clients can have `sessions` connections at a time."""
         text = (EXAMPLES / name).read_text(encoding="utf-8")
         return self.file(name, re.sub(r"(?m)^sessions = \d+", f"sessions = {sessions}", text))
 
@@ -81,8 +81,8 @@ class Broken(Cycle):
         self.assertGreaterEqual(self.check_complete(going.folder), 3)
 
     def mounted(self) -> tuple[str, ...]:
-        """Returns the words to put before a call, so that the folder of runs is a small disk in it. Skips the test if
-        nothing can be mounted."""
+        """Makes the folder of runs. Returns the words to put before a call, so that in this call the folder is a small
+        disk. Skips the test if nothing can be mounted."""
         (self.room / "runs").mkdir()
         for way in (["unshare", "-m"], ["unshare", "-rm"]):
             words = (*way, "sh", "-c", MOUNT, "sh", str(self.room / "runs"))
@@ -103,7 +103,7 @@ class Broken(Cycle):
     def test_on_a_full_disk_nothing_is_granted_and_the_run_ends(self) -> None:
         """A student's move and a command of the teacher are refused with `journal`, and no event happens."""
         going = Going(self, CYCLE, "--close", "by-hand", before=self.mounted())
-        self.fill(Path(f"/proc/{going.process.pid}/root{going.folder}"))
+        self.fill(Path(f"/proc/{going.process.pid}/root{going.folder}"))  # Only the run and its server see the small disk.
         going.until("^the disk is full. Make room now: if a line of the journal can't be written, the server grants nothing more$")
         with Client(going.port, "gus", KEYS["gus"]) as gus:
             with self.assertRaises(Refused) as refused:
@@ -134,9 +134,9 @@ class Broken(Cycle):
         self.assertEqual(going.wait_for_end(), 4, going.lines)
         self.assertEqual(self.check_complete(going.folder), 60)
 
-    def lost(self, act: Callable[[Path], object], status: int = 4) -> Going:
-        """Starts a run, makes three events, and calls `act` with the path of its journal. Checks that the run ends with
-        this status, and returns it."""
+    def run_until_journal_lost(self, act: Callable[[Path], object], status: int = 4) -> Going:
+        """Starts a run, and makes three events. Then calls `act`, which damages the journal, with the journal's path.
+        Checks that the run ends by itself with this status, and returns it."""
         going = Going(self, CYCLE, "--close", "by-hand", "--beside")
         for number in range(1, 4):
             going.type("fault 1 2 true")
@@ -150,7 +150,7 @@ class Broken(Cycle):
     def test_a_run_ends_when_its_journal_is_removed_moved_or_replaced_and_saves_its_lines(self) -> None:
         """It ends although no client sends a request. After the saved file is put back, the run can be resumed."""
         for act in (self.remove, self.move, self.replace):
-            going = self.lost(act)
+            going = self.run_until_journal_lost(act)
             told = "the journal's file was removed, moved or replaced. Wait for the line that says where its lines are saved, " \
                    f"and then continue the run by {CLASS} run --resume {going.folder}"
             self.assertIn(f"nothing more is granted: {told}", going.lines)
@@ -189,7 +189,7 @@ class Broken(Cycle):
 
         acts: list[tuple[Callable[[Path], object], int]] = [(lambda journal: os.truncate(journal, 19), 4), (lengthen, 3)]
         for act, status in acts:
-            going = self.lost(act, status)
+            going = self.run_until_journal_lost(act, status)
             self.assertTrue(any(line.startswith("nothing more is granted: the journal's file was changed. Undo the change, and then ")
                                 for line in going.lines), going.lines)
 

@@ -62,8 +62,8 @@ class Playing(InRoom):
         self.addCleanup(self.driver.get, "about:blank")
 
     def begin(self, lab: Path = CYCLE, *more: str) -> None:
-        """Starts a run of a lab with these options, whose steps are closed by hand. Keeps the run in `going`, and the
-        address of its page to play in `address`."""
+        """Starts a run of a lab with these options. Its steps are closed by hand. Keeps the run in `going`, and the
+        address of the page on which its students play in `address`."""
         self.going = Going(self, lab, "--close", "by-hand", "--play", str(a_port()), *more)
         self.address = self.going.until("^page for playing by hand http").removeprefix("page for playing by hand ")
 
@@ -73,7 +73,8 @@ class Playing(InRoom):
         self.driver.get(self.address + more)
 
     def come(self, name: str = "gus", key: str = "") -> None:
-        """Types a name and a key on the page, by default the right one, and clicks the button to enter."""
+        """Types a name and a key on the page, and clicks the button to enter. Without `key`, types the student's own
+        key."""
         for field, text in (("name", name), ("key", key or KEYS[name])):
             element = self.driver.find_element("id", field)
             element.clear()
@@ -316,11 +317,10 @@ class Playing(InRoom):
 class Wire(InRoom):
     """HTTP requests to the page's server without a browser."""
 
-    def ask(self, hands: str, verb: str, path: str, body: object = None, **head: str) -> tuple[http.client.HTTPResponse, bytes]:
-        """Sends a request to the page's server. `hands` is the address of the page to play, and `path` is below the
-        server's root. A `body` that isn't bytes is sent as JSON, and `head` are headers besides the right Host, or in
-        its place. Returns the answer and its bytes."""
-        parts = urlsplit(hands)
+    def ask(self, address: str, verb: str, path: str, body: object = None, **head: str) -> tuple[http.client.HTTPResponse, bytes]:
+        """Sends a request for `path` to the page's server, which has this address. A `body` that isn't bytes is sent as
+        JSON. `head` are headers besides the right Host, or in its place. Returns the answer and its bytes."""
+        parts = urlsplit(address)
         connection = http.client.HTTPConnection("127.0.0.1", parts.port or 0, timeout=LIMIT)
         self.addCleanup(connection.close)
         sent = body if isinstance(body, bytes) else None if body is None else json.dumps(body).encode()

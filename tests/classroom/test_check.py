@@ -6,7 +6,7 @@ import math
 import unittest
 
 from classroom.core import lab as labs
-from classroom.setup.check import ABOVE, bits, hint_of, key_warnings, unknown_keys
+from classroom.setup.check import ABOVE, bits, effort, hint_of, key_warnings, unknown_keys
 from classroom.setup.positions import table as table_at
 from classroom.setup.positions import tables
 from tests.classroom.help import EXAMPLES, InRoom, call_class
@@ -89,7 +89,7 @@ class Check(InRoom):
 
     def test_a_person_s_key_is_named_if_it_is_public_or_easy_to_guess(self) -> None:
         self.warns("the key of ana is that of an example lab", change=("1f3b5a7c9d1e2f48a6b8c0d2e4f61357", "a-key"))
-        self.warns("the key of ana is easy to guess: it has at most 43 bits, and guessing it takes at most",
+        self.warns("the key of ana may be easy to guess: it has at most 43 bits, and guessing it takes at most",
                    change=("1f3b5a7c9d1e2f48a6b8c0d2e4f61357", "abcdefghij"))
         self.assertLess(bits("a" * 60), 64)
         self.assertGreater(bits("0f3b5a7c9d1e2f48a6b8c0d2e4f61357"), 100)
@@ -98,7 +98,7 @@ class Check(InRoom):
         """`./class new` draws three words of a list and two digits. A key with at least three words of the list counts
         as drawn, and any other key needs more bits."""
         drawn = "amber-lilac-tonic-42"
-        self.assertAlmostEqual(bits(drawn), 36 + math.log2(100))
+        self.assertAlmostEqual(bits(drawn), 36 + math.log2(100))  # The list has 4096 words, so each word has 12 bits.
         cases = ((drawn, ""), ("ant-ant-ant-11", ""), ("amber-lilac-tonic-gravel", ""),
                  ("amber-lilac-tonic-4", "39 bits, and guessing it takes at most 261 years"),
                  ("amber-lilac-42", "31 bits, and guessing it takes at most 233 days"),
@@ -107,7 +107,12 @@ class Check(InRoom):
         for key, warning in cases:
             lab = labs.Lab(1000, 4, ("tess", "0f3b5a7c9d1e2f48a6b8c0d2e4f61357"), {"ana": key}, [], [])
             warned = [line.partition(". Write")[0] for line in key_warnings(lab)]
-            self.assertEqual(warned, [f"the key of ana is easy to guess: it has at most {warning}"] if warning else [], key)
+            self.assertEqual(warned, [f"the key of ana may be easy to guess: it has at most {warning}. It may take much less"] if warning else [], key)
+
+    def test_the_time_in_which_a_key_can_be_guessed_has_a_fitting_unit(self) -> None:
+        for key, time in (("amber-12", "1 hour"), ("abcdefghijkl", "14 million years"), ("abcdefghijklm", "944 million years"),
+                          ("1234567890123456789", "4 billion years")):
+            self.assertEqual(effort(key), time)
 
     def test_a_key_with_a_letter_of_no_kind_counts_as_drawn_from_128_more_letters(self) -> None:
         """The kinds are lower case, upper case, digits and punctuation, all in ASCII. But no key counts as drawn from
@@ -124,7 +129,8 @@ class Check(InRoom):
         # 256 letters of no kind, each with the seven bits of 128 letters.
         self.assertAlmostEqual(bits("".join(map(chr, range(0x410, 0x510)))), 256 * 7)
         for key, told in (("äöüßéèêàâçñøåæœłżźčš", []),
-                          ("äöüßéè", ["the key of ana is easy to guess: it has at most 22 bits, and guessing it takes at most 10 hours"])):
+                          ("äöüßéè", ["the key of ana may be easy to guess: it has at most 22 bits, and guessing it takes at most 10 hours. "
+                                      "It may take much less"])):
             lab = labs.Lab(1000, 4, ("tess", "0f3b5a7c9d1e2f48a6b8c0d2e4f61357"), {"ana": key}, [], [])
             self.assertEqual([line.partition(". Write")[0] for line in key_warnings(lab)], told)
         self.assertGreater(bits("abcdefghijklmnopqrstuvwxyzä"), bits("abcdefghijklmnopqrstuvwxyza"))
@@ -182,7 +188,9 @@ class Tables(unittest.TestCase):
     """Finding the lines of tables and keys, and unknown keys."""
 
     def hints(self, *lines: str) -> list[tuple[int, str, str | None]]:
-        """Returns the hints about unknown keys in a file with these lines."""
+        """Returns the hints about unknown keys in a file with these lines. A hint has the number of the line, the key,
+        and the known key to suggest, or None if none is similar. For a key that belongs above all tables, ABOVE stands
+        in place of the known key."""
         return list(unknown_keys("\n".join(lines) + "\n"))
 
     def check_hints(self, *lines: str) -> None:

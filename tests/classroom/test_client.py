@@ -159,7 +159,7 @@ class Hurt(unittest.TestCase):
     """Lines that aren't requests."""
 
     def test_for_each_wrong_line_of_beginners_the_client_says_how_to_mend_it(self) -> None:
-        self.assertEqual(len(HURT), 47)
+        self.assertEqual(len(HURT), 47)  # so that no row of the table is lost
         for line, told in HURT:
             self.assertEqual(wrong(line), told, line)
 

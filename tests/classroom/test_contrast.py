@@ -23,10 +23,11 @@ DRAWN = {
 TEXTS = re.compile(r"\btext\b|\.identifier|\.owner|\.mark")
 
 
-def of_a_page(name: str) -> set[tuple[str, str]]:
+def text_colours(name: str) -> set[tuple[str, str]]:
     """Returns the colours of the texts in the style sheet of a page, each with a colour that its background may have.
-    That is the background in the same style rule. If the rule has none, it is each of GROUNDS for `quiet`, and each of
-    the first two for any other colour."""
+    This is the background in the same style rule, if the rule has one. Otherwise it is each of GROUNDS for `quiet`, and
+    each of the first two for any other colour. A text in a drawing has its fill on `ground`, and a text without a rule
+    has `ink` on each of GROUNDS."""
     found = {("ink", ground) for ground in GROUNDS}
     for rule in RULE.finditer((colours.STYLE.parent / name).read_text("utf-8")):
         front, back, fill = COLOUR.search(rule["set"]), BACKGROUND.search(rule["set"]), FILL.search(rule["set"])
@@ -51,12 +52,13 @@ class Palette(unittest.TestCase):
 
     def test_texts_of_pages_have_enough_contrast(self) -> None:
         for name in PAGES:
-            self.check_readable(of_a_page(name))
+            self.check_readable(text_colours(name))
 
     def test_texts_of_drawings_have_enough_contrast(self) -> None:
         self.check_readable(DRAWN)
 
     def test_the_table_of_drawn_texts_has_each_colour_of_the_style_and_no_other(self) -> None:
+        # The second part is the style of drawings, without the themes.
         fills = {fill[1] for rule in RULE.finditer(colours.parts()[1]) if TEXTS.search(rule["chosen"]) and (fill := FILL.search(rule["set"])) is not None}
         self.assertEqual(fills, {front for front, _ in DRAWN})
 

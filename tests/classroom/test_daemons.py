@@ -112,7 +112,7 @@ class StandInDesk:
             self.book.chosen[self.later.pop()] = ("cyd", "update")
 
     def close(self) -> None:
-        """Closes the step."""
+        """Stands in for closing the step. Only adds a text with the nodes of all chosen moves to `done`."""
         self.done.append(f"close of {sorted(self.book.chosen)}")
 
 

@@ -17,9 +17,11 @@ import unittest
 import unittest.mock
 import urllib.error
 import urllib.request
+from collections.abc import Callable
+from itertools import chain, repeat
 from pathlib import Path
 
-from classroom.client import Client, Refused, Report
+from classroom.client import Client, Closed, Refused, Report
 from classroom.core import lab as labs
 from classroom.core.printable import printable
 from classroom.core.program import host
@@ -27,9 +29,10 @@ from classroom.run import server
 from classroom.run.attend import DiskRoom, attend
 from classroom.run.daemons import Daemon
 from classroom.run.desk import Desk
+from classroom.run.holding import Running, renew
 from classroom.run.taking import greet
 from classroom.run.teller import Teller
-from classroom.run.typed import FORMS, NOW, Terminal, Typed, parse_command
+from classroom.run.typed import FORMS, LEAVE, NOW, Terminal, Typed, parse_command
 from tests.classroom.help import CYCLE, EXAMPLES, KEYS, LIMIT, Cycle, Going, InRoom, InTerminal, a_port, call_class, stop
 from tests.common.limits import MOST
 
@@ -196,7 +199,7 @@ class Late(Cycle):
         self.addCleanup(room.close)
         holding = threading.Thread(target=lambda: found.append(attend(desk, it, False, typed, room, lambda: None)))
         stop(it.process.number)
-        desk.client.limit = 0.5  # The new connection has a longer limit, so that a slow reply isn't late.
+        desk.client.limit = 0.5  # Seconds for a reply. The new connection has a longer limit, so that a slow reply isn't late.
         patient = unittest.mock.patch("classroom.run.desk.Client", lambda port, name, key, limit: Client(port, name, key))
         patient.start()
         self.addCleanup(patient.stop)
@@ -209,17 +212,16 @@ class Late(Cycle):
         typed.put("link 1 3")
         self.until(lambda: any("the link between 1 and 3" in line for line in lines))
         self.assertTrue(any("configuration 1: fault at node 1: p 2, m true" in line for line in lines), lines)
-        typed.put(NOW)
+        typed.put(NOW)  # the text that ends the run at once
         holding.join(LIMIT)
         desk.known.journal.close()
         self.assertEqual(found, ["end"])
         desk.client.bye()
         self.assertTrue(it.has_ended(LIMIT))
 
-    def until(self, holds: object) -> None:
+    def until(self, holds: Callable[[], object]) -> None:
         """Waits until the function `holds` returns a true value. Fails after LIMIT seconds."""
         end = time.monotonic() + LIMIT
-        assert callable(holds)
         while not holds():
             self.assertLess(time.monotonic(), end)
             time.sleep(0.01)
@@ -260,8 +262,8 @@ class Late(Cycle):
             self.assertEqual(text.count("http://"), 1, text)
 
     def test_a_resumed_run_has_the_same_page_for_the_projector_and_another_one_to_act(self) -> None:
-        """The token of the page to act isn't kept in the run's folder. After the server was killed, the run is
-        resumed."""
+        """The page on which the teacher can act has a token in its address, which isn't kept in the run's folder. After
+        the server was killed, the run is resumed."""
         going = Going(self, CYCLE, "--close", "by-hand", "--page", str(a_port()))
         looks, acts = (going.until(f"^{word} http").removeprefix(f"{word} ") for word in ("page for the projector", "page on which you can act"))
         os.kill(going.server(), signal.SIGKILL)
@@ -297,7 +299,7 @@ class Kept(InRoom):
     """The lines of a run in its folder."""
 
     def test_each_kept_line_has_its_hour_and_minute_and_lines_for_the_terminal_are_not_kept(self) -> None:
-        """The functions in `also` get each kept line too. `alone` prints a line only in the terminal."""
+        """The functions in `also` get each kept line too. `print_only` prints a line only in the terminal."""
         tell, heard = Teller(self.room), list[str]()
         tell.also.append(heard.append)
         with contextlib.redirect_stdout(io.StringIO()) as printed:
@@ -389,6 +391,41 @@ class Memory(InRoom):
         self.assertEqual(len(lines), 1)
         with self.assertRaises(Refused):
             desk.known.ask_report()
+
+
+class NewKey(InRoom):
+    """A desk that can't connect to the server again after the command `key`, which restarts the server."""
+
+    def end_after(self, signal_word: str, error: Exception) -> tuple[str, list[str]]:
+        """Types `key gus` at a desk, and then queues the word of a signal. Each attempt to connect to the desk fails by
+        `error`. Returns the reason for which the desk ends the run, and the lines that it prints."""
+        lab, it, client, lines = labs.read(CYCLE), unittest.mock.Mock(), unittest.mock.Mock(), list[str]()
+        it.has_ended.side_effect = chain(repeat(False, 20), repeat(True))  # If the signal is lost, the reason is `died`.
+        client.report.return_value = Report(0, False, (), (), (), ())
+        client.limit = 1.0
+        desk = Desk(lab, self.file("journal", ""), client, Daemon("by-hand"), lines.append)
+        self.addCleanup(desk.known.journal.close)
+        run = Running(self.room, CYCLE, lab, desk.closing, None, None, False, Teller(self.room))
+        desk.another_key = lambda name: renew(run, it, desk, name)
+        for line in ("key gus", signal_word):
+            run.typed.put(line)
+        room = DiskRoom(self.room)
+        self.addCleanup(room.close)
+        patches = (unittest.mock.patch("classroom.run.renewing.renew"),  # the restart, which is left out
+                   unittest.mock.patch("classroom.run.taking.Client", side_effect=error),
+                   unittest.mock.patch("classroom.run.desk.Client", side_effect=error))
+        with patches[0], patches[1], patches[2], contextlib.redirect_stdout(io.StringIO()):
+            return attend(desk, it, False, run.typed, room, lambda: None), lines
+
+    def test_another_process_can_take_the_desk_then(self) -> None:
+        for error in (Refused("busy"), Closed("no answer in 30 seconds")):
+            self.assertEqual(self.end_after(LEAVE, error)[0], "left")
+
+    def test_a_signal_then_ends_the_run_after_one_more_try_to_connect(self) -> None:
+        for error in (Refused("busy"), Closed("no answer in 30 seconds")):
+            why, lines = self.end_after(NOW, error)
+            self.assertEqual(why, "end")
+            self.assertIn(f"the desk has lost its connection to the server, and tries to connect again: {error}", lines)
 
 
 class NotDone(Cycle):

@@ -1,6 +1,10 @@
 """The door by itself, with stand-ins for the servers of classes and of pages: what it forwards, and what it rejects.
+
 The *door* is a TLS port for students on other machines. Clients name their network by the server name of the TLS
-handshake, and browsers by the path of a page. A *slip* is a file with what a student's program needs to connect."""
+handshake, and browsers by the path of a page. A network has the page *to play*, on which students play by hand, and the
+page for the projector. The latter has two addresses, each with a random token: one *to look at*, and one *to act*, at
+which the teacher can give commands. A *slip* is a file with what a student's program needs to connect.
+"""
 from __future__ import annotations
 
 import contextlib
@@ -16,6 +20,7 @@ import time
 import unittest
 from collections.abc import Callable, Iterator
 from contextlib import contextmanager
+from functools import partial
 from http.server import BaseHTTPRequestHandler, ThreadingHTTPServer
 from pathlib import Path
 from unittest import mock
@@ -54,7 +59,8 @@ class Lines:
             threading.Thread(target=self.serve_connection, args=[connection], daemon=True).start()
 
     def serve_connection(self, connection: socket.socket) -> None:
-        """Serves a connection, and closes it after `bye` or after a line that isn't a request."""
+        """Answers each line of a connection, and closes the connection after `bye` or after a line that isn't a
+        request. If `last` isn't empty, only sends `last`, and closes the connection at once."""
         with connection, connection.makefile("rb") as lines:
             if self.last:
                 connection.sendall(self.last)
@@ -74,7 +80,8 @@ class Afterwards(Lines):
     """A stand-in that answers only after the client has ended its side of the connection."""
 
     def serve_connection(self, connection: socket.socket) -> None:
-        """Reads all lines to the end, and then sends back each line that has come so far, slowly."""
+        """Reads all lines of a connection to its end. Then slowly sends all lines that have come so far, those of
+        earlier connections too."""
         with connection, connection.makefile("rb") as lines:
             self.taken += lines.readlines()
             for line in self.taken:
@@ -119,10 +126,9 @@ class AtDoor(InRoom):
         self.door.child.kill()
         self.door.child.wait()
 
-    def wait(self, until: object, seconds: float = LIMIT) -> None:
+    def wait(self, until: Callable[[], object], seconds: float = LIMIT) -> None:
         """Waits until a function returns a true value. Fails after `seconds` seconds."""
         end = time.monotonic() + seconds
-        assert callable(until)
         while not until():
             self.assertLess(time.monotonic(), end)
             time.sleep(0.02)
@@ -331,6 +337,43 @@ class Bots(AtDoor):
         self.wait(lambda: self.door.listener.fileno() == -1)
         with self.assertRaises(NoServer):
             Client.of(self.slip("maths"))
+
+
+class Restarts(InRoom):
+    """A door whose process ends unexpectedly. It is restarted at most five times."""
+
+    def check_lines(self, statuses: list[int], wanted: list[str], is_closing: bool = False) -> None:
+        """Opens a door whose process ends with the first of these statuses, and with the next one after each restart.
+        Checks that there are as many processes as statuses, and that the printed lines begin with the texts in
+        `wanted`. At the end, the listening socket has to be closed. `is_closing` says whether the door is closed while
+        the last process runs."""
+        told: list[str] = []
+        listener = socket.create_server(("127.0.0.1", 0))
+        self.addCleanup(listener.close)
+        children = [mock.Mock(returncode=status) for status in statuses]
+        # The test itself calls `watch`, so that no thread runs.
+        with mock.patch.object(opening.OpenDoor, "start_process", side_effect=children) as starts, mock.patch("threading.Thread"):
+            door = opening.OpenDoor(self.room, listener, told.append)
+
+            def wait(index: int) -> int:
+                """Stands for the wait for the end of the process with this index. Returns the status of the process."""
+                if is_closing and index == len(statuses) - 1:
+                    door.closes.set()
+                return statuses[index]
+
+            for index, child in enumerate(children):
+                child.wait.side_effect = partial(wait, index)
+            door.watch()
+        self.assertEqual((starts.call_count, listener.fileno()), (len(statuses), -1))
+        self.assertEqual([line[:len(start)] for line, start in zip(told, wanted, strict=True)], wanted)
+
+    def test_a_door_counts_as_ended_too_often_only_if_its_process_fails_once_more_after_five_restarts(self) -> None:
+        again = ["the process of the door has ended unexpectedly, with status 3. The door is opened again"] * opening.TIMES
+        failed = [3] * opening.TIMES
+        self.check_lines([*failed, 3], [*again, "the process of the door has ended too often, so the door stays closed. "])
+        self.check_lines([*failed, 0], again)
+        self.check_lines([*failed, -15], again, is_closing=True)
+        self.check_lines([0], [])
 
 
 class Tunnels(AtDoor):

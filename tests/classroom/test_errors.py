@@ -26,8 +26,8 @@ FULL = 'mount -t tmpfs -o size=64k none "$1" && head -c 1000000 /dev/zero > "$1/
 
 
 def full_disk(test: InRoom) -> tuple[Path, tuple[str, ...]]:
-    """Returns a folder, and the words to put before a call, so that the folder is a full disk in it. Skips the test if
-    nothing can be mounted."""
+    """Makes a folder. Returns it, and the words to put before a call, so that in this call the folder is a full disk.
+    Skips the test if nothing can be mounted."""
     disk = test.room / "disk"
     disk.mkdir()
     for way in (["unshare", "-m"], ["unshare", "-rm"]):

@@ -1,6 +1,7 @@
 """`./class experiment`: its table, its chart, and a run that exceeds a bound, which is saved. A *row* of the table has
 the numbers of moves, closed steps and rounds of a run. A run is determined by its setting (the network's family and
-size, the daemon and the start) and its seed."""
+size, the daemon and the start) and its seed. The *daemon* chooses the nodes that move in each step, and the *start* is
+the kind of registers at the beginning, such as `random`. A node is *privileged* if a rule can be applied at it."""
 from __future__ import annotations
 
 import csv

@@ -118,8 +118,9 @@ class Far(InRoom):
         wait_until(lambda: not self.reaches(self.students, self.port))  # The door stays open for a little while after its last network has ended.
 
     def check_page_for_all(self, folder: Path, looks: list[str]) -> str:
-        """Checks from the students' machine that the page for all networks and their pages to look at can be
-        opened, and none to act at. Returns the path of the page."""
+        """Checks from the students' machine that the page for all networks can be opened, has the addresses of the
+        networks' own pages, and accepts no commands. `folder` is that of the class, and `looks` has the tokens of the
+        networks' addresses. Returns the path of the page for all networks."""
         kept = json.loads((folder / "class.json").read_text(encoding="utf-8"))
         path = f"/all/look/{kept['looks']}/"
         self.assertEqual(self.gets(path)[0], 200)
@@ -130,8 +131,8 @@ class Far(InRoom):
         return path
 
     def networks(self, path: str) -> list[dict[str, Any]]:
-        """Returns the networks in the state of the page for all, which is requested from the students' machine at this
-        path."""
+        """Requests the state of the page for all networks from the students' machine. `path` is the page's path.
+        Returns the networks in this state."""
         prints_text = GETS.replace("len(answer.read())", "answer.read().decode()")  # The text is printed instead of its size.
         done = subprocess.run([*self.students.on, sys.executable, "-c", prints_text, TEACHERS, str(self.port), f"{path}state"],
                               check=True, capture_output=True, text=True)

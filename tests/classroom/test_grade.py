@@ -1,8 +1,10 @@
 """`./class grade`: correct bots pass each case, bots with known faults fail the right case, and no process is left. A
-*case* is a lab that a bot plays, with a daemon and a seed, and a *plan* describes cases that differ only in these two.
-Each bot has a *keeper*, the process that starts it and enforces its limits."""
+*case* is a lab that a bot plays, with a daemon and a seed. The *daemon* decides when a step is closed, and which moves
+are applied then. A *plan* describes cases that differ only in their daemons and seeds. Each bot has a *keeper*, the
+process that starts it and enforces its limits."""
 from __future__ import annotations
 
+import argparse
 import concurrent.futures
 import json
 import os
@@ -18,14 +20,15 @@ import unittest.mock
 from pathlib import Path
 from xml.etree import ElementTree
 
-from classroom.bots import suites, troubles
+from classroom.bots import grade, graded, suites, troubles
 from classroom.bots.attempt import Limits
 from classroom.bots.bots import Bot, end_in_words
 from classroom.bots.trial import Result, try_bot
+from classroom.core.lab import read
 from classroom.core.processes import parents
 from classroom.core.program import TOP, call
 from classroom.run.daemons import Daemon
-from tests.classroom.help import EXAMPLES, LIMIT, InRoom, call_class
+from tests.classroom.help import CYCLE, EXAMPLES, LIMIT, InRoom, call_class
 
 FAULTY = TOP / "tests/classroom/bots/faulty.py"
 SLEEP = b"98765.25"  # an argument of the processes that bots of `faulty.py` leave running
@@ -51,6 +54,10 @@ OWN = {
     "pretends": ("path-4", rf"no hello of the bot was granted within {SECONDS} seconds; the bot never connected to port \d+$"),
 }
 PLANS = {plan.name: plan for plan in suites.SMALL}
+
+
+class Ended(Exception):
+    """A test's stand-in for the end of its process."""
 
 
 def faulty(fault: str) -> Bot:
@@ -201,6 +208,73 @@ class Commands(InRoom):
                 ("ended -44", 20.0, "was ended by the signal 44"))
         for how, seconds, told in rows:
             self.assertEqual(end_in_words(how, seconds), told)
+
+
+class Kept(InRoom):
+    """The files with the results, if writing them takes long."""
+
+    def setUp(self) -> None:
+        """Makes a `Written` for a bot in three cases. Each of its writes counts as so slow that it writes only the
+        first result at once, and keeps further ones for later. Replaces the end of this process by `Ended`, and
+        restores the handlers of signals at the end."""
+        super().setUp()
+        self.table = self.room / "cases.json"
+        made, bots = read(CYCLE), [Bot.of("python3 bot.py")]
+        cases = [suites.Case("cycle", made, "gus", Daemon("central"), seed, ()) for seed in (1, 2, 3)]
+        self.results = [Result(bots[0].name, case.lab, case.daemon.spelled(), case.seed, True, "") for case in cases]
+        self.written = grade.Written(argparse.Namespace(json=str(self.table), junit=None, gradescope=None), bots, cases, [])
+        for number in (signal.SIGINT, signal.SIGTERM, signal.SIGHUP):
+            self.addCleanup(signal.signal, number, signal.getsignal(number))
+        for name, value in (("LONG", -1.0), ("SPARING", 1e9), ("end_at_once", unittest.mock.Mock(side_effect=Ended))):
+            patch = unittest.mock.patch.object(grade, name, value)
+            patch.start()
+            self.addCleanup(patch.stop)
+
+    def seeds(self) -> list[int]:
+        """Returns the seeds of the results in the file."""
+        return [each["seed"] for each in json.loads(self.table.read_text(encoding="utf-8"))]
+
+    def test_a_second_interrupt_writes_the_results_that_the_file_lacks(self) -> None:
+        stop = grade.catch_interrupts(self.written)
+        for result in self.results:
+            self.written.add(result)
+        self.assertEqual(self.seeds(), [1])
+        signal.raise_signal(signal.SIGINT)
+        self.assertTrue(stop.is_set())
+        self.assertEqual(self.seeds(), [1])
+        with self.assertRaises(Ended):
+            signal.raise_signal(signal.SIGINT)
+        self.assertEqual(self.seeds(), [1, 2, 3])
+
+    def test_an_interrupt_during_a_write_loses_no_result_and_the_next_one_ends_the_grade(self) -> None:
+        """The first two interrupts come while the results are sorted before a write. The handler of the second one
+        sorts and writes them itself. If a third interrupt comes while this handler sorts, the grade ends without
+        writing."""
+        for interrupts, expected in ((2, [1, 2, 3]), (3, [1])):
+            with self.subTest(interrupts=interrupts):
+                grade.catch_interrupts(self.written)
+                self.written.results.clear()
+                self.written.next = 0.0
+                for result in self.results:
+                    self.written.add(result)
+                left = iter([signal.SIGINT] * interrupts)
+
+                def name(result: Result) -> str:
+                    """Returns the name of the result's case, after a signal to this process if one is left."""
+                    if number := next(left, None):
+                        signal.raise_signal(number)
+                    return f"{result.lab} {result.daemon} {result.seed}"
+
+                with unittest.mock.patch.object(graded, "case_name", name), self.assertRaises(Ended):
+                    self.written.write()
+                self.assertEqual(self.seeds(), expected)
+
+    def test_a_file_that_can_not_be_written_at_the_end_has_an_error_line(self) -> None:
+        self.written.files["json"] = self.room / "none/cases.json"
+        with unittest.mock.patch.object(grade, "STDERR", os.open(self.room / "lines", os.O_CREAT | os.O_WRONLY)):
+            self.written.complete()
+            os.close(grade.STDERR)
+        self.assertIn("none/cases.json: No such file or directory; nothing was written to this file", (self.room / "lines").read_text(encoding="utf-8"))
 
 
 class Calls(InRoom):

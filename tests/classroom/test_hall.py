@@ -9,6 +9,8 @@ import threading
 import unittest
 import urllib.error
 import urllib.request
+from collections.abc import Callable
+from typing import Any
 from urllib.parse import urlsplit
 
 from classroom.core.class_state import ClassState, NetworkState
@@ -135,10 +137,9 @@ class OfAClass(Classes):
         self.assertEqual(ask(f"{acts}act", "all: end")[0], 204)
         self.assertEqual(desk.wait_for_end(), 0, desk.lines)
 
-    def until_state(self, looks: str, holds: object) -> None:
+    def until_state(self, looks: str, holds: Callable[[dict[str, Any]], object]) -> None:
         """Reads the events at `looks`, an address to look at, until `holds` returns a true value for a state. Fails if
         the events end before."""
-        assert callable(holds)
         with urllib.request.urlopen(f"{looks}events", timeout=LIMIT) as news:
             for line in news:
                 if line.startswith(b"data: ") and holds(json.loads(line.removeprefix(b"data: "))):

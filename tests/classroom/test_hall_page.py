@@ -47,9 +47,9 @@ def network(word: str, count: int | None) -> tuple[labs.Lab, Links]:
 
 def state_of(links: Links, nodes: int, privileged: Sequence[Sequence[Any]], pairs: Links, rows: Sequence[Sequence[Any]]) -> dict[str, Any]:
     """Returns the state of a network in the form that its run writes (`classroom.core.class_state`). `links` are its
-    links, and `nodes` is the number of its nodes. `privileged` has each enabled node with its rule, and `pairs` the
-    married pairs. Each row is a node with its p, its m, and the rule of its chosen move. Nodes that aren't in `rows`
-    are clean."""
+    links, and `nodes` is the number of its nodes. `privileged` has each node at which a rule can be applied, with this
+    rule, and `pairs` has the pairs of the matching. Each row is a node with its p, its m, and the rule of its chosen
+    move. For nodes that aren't in `rows`, p is null and m is false."""
     told = {row[0]: row for row in rows}
     return {"configuration": 3, "stable": not privileged, "privileged": privileged, "pairs": [list(pair) for pair in pairs], "open": 2, "moves": 4,
             "most": 70, "events": 9, "limit": 100, "closing": "by-hand", "waiting": [], "missing": ["Zoë M.", "Jonas E."], "idle": [],

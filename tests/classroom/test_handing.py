@@ -76,7 +76,7 @@ class Made(Slips):
     def test_without_an_account_the_ssh_line_has_the_word_name_in_its_place(self) -> None:
         self.new("--port", "5001", "--page-port", "6001")
         self.assertRegex(self.page(2), r"<code>ssh -N -L 5002:127\.0\.0\.1:5002 -L 6002:127\.0\.0\.1:6002 NAME@[^<]+</code> "
-                                       r"\(NAME is your account on that machine\)</p>")
+                                       r"\(NAME is your account on the server\)</p>")
 
     def test_slips_with_a_door_have_its_address_its_fingerprint_and_a_qr_code(self) -> None:
         """The table for a mail merge has the names, e-mail addresses, networks and rooms."""

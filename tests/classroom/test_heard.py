@@ -62,7 +62,7 @@ class Listened(InRoom):
         self.greet(3, "hana")
         self.assertEqual(self.heard.who(3, 7), "gus, 2 connections without a hello (3 of 7 seats are taken)")
         self.heard.read()
-        self.assertEqual(self.heard.who(5, 7), "gus by 2 connections, hana, 2 connections without a hello (5 of 7 seats are taken)")
+        self.assertEqual(self.heard.who(5, 7), "gus with 2 connections, hana, 2 connections without a hello (5 of 7 seats are taken)")
         self.assertEqual(self.news(), ["connected: gus, 2 connections", "connected: hana"])
         self.put(5, "5 0 .\n")
         self.put(3, "3 0 .\n")
@@ -108,7 +108,7 @@ class Listened(InRoom):
             self.say(5, 0, HELLO % (name.replace("\x1b", "\\u001b"), "x"), UNKNOWN)
         # Of two values of `name` the last one counts.
         self.say(5, 0, '{"do":"hello","name":"gus","name":"hana","key":"k"}', UNKNOWN, 11)
-        self.assertEqual(self.news(), ["2 hellos with a wrong key for names that aren't in the lab", "1 hello with a wrong key for tess",
+        self.assertEqual(self.news(), ["2 hellos with a name that isn't in the lab", "1 hello with a wrong key for tess",
                                        "11 hellos with a wrong key for hana"])
         self.assertEqual(self.heard.amiss(), ["hellos with wrong keys: 11 for gus, 2 for names that aren't in the lab, 1 for tess, 11 for hana"])
 

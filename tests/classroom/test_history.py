@@ -62,7 +62,8 @@ class Raw:
     """A connection that sends any bytes as a line, even if they aren't a request."""
 
     def __init__(self, port: int, name: str = "", key: str = "") -> None:
-        """Connects to a port, and says hello if there is a name."""
+        """Connects to a port, and says hello if there is a name. Without `key`, the hello has the key of this student
+        of the cycle."""
         self.socket = socket.create_connection(("127.0.0.1", port))
         self.replies = self.socket.makefile("rb")
         if name:
@@ -241,8 +242,8 @@ class Verified(Disputed):
     """Records that were changed, and the verdicts on them."""
 
     def denied(self, folder: Path) -> tuple[dict[str, int | None], bool]:
-        """Returns how many lines of gus `./class mark` counts as denied, by clause, and as malformed, without the
-        columns that are zero; and whether the record is complete."""
+        """Returns how many lines of gus `./class mark` counts as denied, by clause, and as malformed, without counts of
+        zero. A count is None if it isn't known. Also returns whether the record is whole."""
         run = json.loads(call_class("mark", folder, "--json").stdout)["runs"][0]
         gus = run["students"]["gus"]
         return {column: gus[column] for column in COLUMNS if gus[column] != 0}, run["whole"]

@@ -19,7 +19,7 @@ TEACHER = read(CYCLE).teacher
 
 @unittest.skipUnless(host(), "not tried: no host is built")
 class Hosted(Cycle):
-    """Runs of the cycle of `examples/`, with three seats, one of which is the desk's, or with all seats."""
+    """Runs of the cycle of `examples/` with at most eight seats, one of which is the desk's."""
 
     def begin(self, sessions: int, *more: str) -> Going:
         """Starts a run of the cycle with this number of seats and these options. Checks that one seat is the desk's."""

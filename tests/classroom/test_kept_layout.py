@@ -15,7 +15,8 @@ from tests.classroom.help import InRoom
 
 
 def lab(word: str, seed: int = 1) -> labs.Lab:
-    """Returns a lab with a network of the family `word`, drawn with the seed."""
+    """Returns a lab of one student, with a network of the family `word`, such as `grid:4x3`. The seed determines the
+    links of a random network."""
     count, links = family(word, None, 0, random.Random(seed))
     return labs.Lab(1000, 2, ("t", "key"), {"s": "key"}, [labs.Node(node, ["s"]) for node in range(1, count + 1)], sorted(links))
 
@@ -40,7 +41,8 @@ class Kept(InRoom):
         springs.searched.cache_clear()
 
     def test_a_kept_layout_spares_the_search_and_is_never_replaced(self) -> None:
-        """A network with one link less is searched for. The layout of another network doesn't replace the file."""
+        """A network whose layout is read from the file needs no search, but the same network with one link less does.
+        Saving the layout of another network doesn't change the file."""
         made = lab("random:40:60")
         nodes = [node.id for node in made.nodes]
         first = lay_out(nodes, made.links)
@@ -63,6 +65,7 @@ class Kept(InRoom):
             self.assertEqual([*self.room.iterdir()], [], word)
 
     def test_a_missing_file_and_files_that_aren_t_layouts_are_ignored(self) -> None:
+        """The last file has no error and is read, so the others are ignored because of their errors."""
         whole = {"links": [[1, 2], [2, 3], [1, 3], [3, 4]], "points": {"1": [0, 0], "2": [1, 0], "3": [0, 1], "4": [1, 1]}}
         texts = ["", "{", "[]", "null", '{"links":[]}', json.dumps(whole | {"points": [1]}), json.dumps(whole | {"links": [[1, "a"]]}),
                  json.dumps(whole | {"points": {"1": [0, 1e9]}}), json.dumps(whole | {"points": {"1": [0, float("nan")]}}), "[" * 100_000,

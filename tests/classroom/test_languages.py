@@ -30,7 +30,8 @@ def tearDownModule() -> None:
 
 @cache
 def bots() -> dict[str, Command]:
-    """Returns the command of each example bot that can run here, by the name of its file. Compiles some of them."""
+    """Returns the command of each example bot that can run here, by the name of its file. Compiles some of them.
+    Raises an error if a compiler fails."""
     found: dict[str, Command] = {}
     for name, program in PROGRAMS.items():
         if shutil.which(program) is None:
@@ -48,7 +49,8 @@ class Languages(unittest.TestCase):
     """The files themselves."""
 
     def test_each_bot_has_less_than_80_lines(self) -> None:
-        """If a bot can't run here, counts as skipped, with the missing programs as the reason."""
+        """The other tests leave out bots whose compiler or interpreter isn't installed. So that this is noticed, this
+        test then counts as skipped, with the missing programs as the reason."""
         for name in PROGRAMS:
             self.assertLess(len((EXAMPLES / name).read_text(encoding="utf-8").splitlines()), 80, name)
         missing = [program for name, program in PROGRAMS.items() if name not in bots()]
@@ -76,6 +78,7 @@ class Bots(Cycle):
         slip = good.read_text(encoding="utf-8")
         none = self.enterContext(no_server())
         for name, command in bots().items():
+            # The wrong key begins with a backslash and a quotation mark, which a bot has to escape in its hello.
             for status, text in ((1, ""), (1, slip.replace("nodes 1", "nodes x")), (2, slip.replace("key ", "key \\\"")),
                                  (3, slip.replace("nodes 1", "nodes 2")), (4, slip.replace(f"port {going.port}", f"port {none}"))):
                 said = subprocess.run([*command, self.file("bad.slip", text)], capture_output=True, text=True, check=False, timeout=LIMIT)
@@ -156,6 +159,8 @@ class Graded(InRoom):
     def test_each_bot_passes_all_twelve_cases_of_the_suite_small(self) -> None:
         """The bots in Java and Python are graded in `test_grade.py`."""
         given = [command[-1] for name, command in bots().items() if name != "Bot.java"]
+        if not given:
+            self.skipTest("not tried: node cc rustc")
         done = call_class("grade", *given, "--timeout", "120", "--into", self.room / "grades")
         self.assertEqual(done.returncode, 0, done.stdout + done.stderr)
         self.assertEqual(done.stdout.count(": 12 of 12 cases passed\n"), len(given), done.stdout)

@@ -63,15 +63,15 @@ class Large(Played):
         return max(1.0, (self.spent() - start) / LOADED)
 
     def step(self, place: int) -> float:
-        """Steps to a place. Returns the processor time that it takes."""
+        """Steps to a place. Returns the processor time that this takes, in milliseconds."""
         start = self.spent()
         self.driver.execute_async_script(STEP, place)
         return self.spent() - start
 
     def measure_opening(self, page: Path) -> float:
-        """Opens a page, and shows its first state. Returns the processor time that it takes in milliseconds, divided by
-        the slowness of this machine. Relies on the browser to count the time of each page from 0. The load by which
-        `slowness` measures runs in a blank page before, so that it doesn't count."""
+        """Opens a page, and shows its first state. Returns the processor time that this takes in milliseconds, divided
+        by the slowness of this machine. The slowness is measured before, in a blank page. That time doesn't count,
+        since the browser counts the time of each page from 0."""
         self.driver.get("about:blank")
         slowness = self.slowness()
         self.driver.get(page.as_uri())
@@ -80,8 +80,8 @@ class Large(Played):
         return self.spent() / slowness
 
     def measure_steps(self, places: list[int]) -> list[float]:
-        """Steps to each of these places, beginning at the one before the first. Returns the processor time that each
-        step takes in milliseconds, divided by the slowness of this machine."""
+        """Steps to each of these places, beginning at the place before the first of them. Returns the processor time
+        that each step takes in milliseconds, divided by the slowness of this machine."""
         slowness = self.slowness()
         self.step(places[0] - 1)
         return [self.step(place) / slowness for place in places]

@@ -57,7 +57,8 @@ class Shapes(unittest.TestCase):
 
     def test_families_are_recognised_whatever_the_nodes_are_called(self) -> None:
         """A random network with many links is drawn on an ellipse. A grid that lacks a link, and a network of two
-        triangles without a path between them, are of no known shape, called `general`."""
+        triangles without a path between them, are of no known shape, called `general`. A single node has a layout
+        too."""
         for word, kind in (("path", "path"), ("cycle", "cycle"), ("star", "star"), ("tree", "tree"), ("complete", "complete"), ("grid:4x3", "grid"),
                            ("grid:8x8", "grid"), ("grid:2x9", "grid"), ("random:12:16", "general"), ("random:15:80", "ellipse")):
             for seed in range(4):
@@ -98,6 +99,7 @@ class Shapes(unittest.TestCase):
         self.assertEqual(len({y for _, y in self.shape("path", 7)[1].points.values()}), 1)
 
     def test_a_star_s_hub_is_in_the_middle(self) -> None:
+        """It may be off the middle of the other nodes by less than 0.35 of the longest link."""
         for size in (4, 7, 15, 30):
             _, layout, nodes = self.shape("star", size)
             hub, rim = layout.points[1], [layout.points[node] for node in nodes[1:]]
@@ -106,6 +108,7 @@ class Shapes(unittest.TestCase):
             self.assertTrue(all(math.dist(hub, point) > 4 * layout.radius for point in rim))
 
     def test_cycles_and_complete_graphs_stand_on_an_ellipse_in_order(self) -> None:
+        """The distances between consecutive nodes differ by less than a fifth, so no node is out of order."""
         for word in ("cycle", "complete"):
             _, layout, nodes = self.shape(word)
             wide_by, high_by = ((max(values) - min(values)) / 2 for values in zip(*layout.points.values()))
@@ -131,6 +134,7 @@ class Shapes(unittest.TestCase):
                     self.assertAlmostEqual(layout.points[node][0], (min(children) + max(children)) / 2, delta=0.2)
 
     def test_nodes_don_t_touch_and_are_in_the_field_and_the_order_of_nodes_and_links_doesn_t_matter(self) -> None:
+        """The drawing of a node reaches RING times the radius of its disc from its middle."""
         for word in FAMILIES:
             nodes, links = network(word)
             for field in (WIDE, TALL, CELL):
@@ -151,7 +155,8 @@ class Shapes(unittest.TestCase):
                 self.assertEqual(tangles(layout.points, links, layout.radius), 0)
 
     def test_networks_of_256_nodes_are_laid_out_in_time_and_faster_in_a_second_field(self) -> None:
-        """The search for a layout is made once, and its result is used for all fields."""
+        """The search for a layout is made once, and its result is used for all fields. So in a second field, two of the
+        networks together take less than half of the time of the slowest one."""
         took: list[float] = []
         for word in ("random:256:300", "random:256:1000", "grid:16x16", "tree", "path", "cycle"):
             nodes, links = network(word, 256)
@@ -161,7 +166,7 @@ class Shapes(unittest.TestCase):
             self.assertLess(took[-1], SECONDS, word)
             self.assertGreater(layout.nearest, 2 * layout.radius, word)
         start = time.process_time()
-        lay_out(nodes, links, TALL)
+        lay_out(nodes, links, TALL)  # the network of the last word
         lay_out(*network("random:256:300"), TALL)
         self.assertLess(time.process_time() - start, max(took) / 2)
 
@@ -276,7 +281,7 @@ class Labels(unittest.TestCase):
                 nodes, links = network(word)
                 view = view_of({node: [NAMES[node % len(NAMES)]] for node in nodes}, links, field)
                 self.assertGreaterEqual(min(view.form.size, view.form.pill), 12.7)
-                if view.layout.radius > 13:
+                if view.layout.radius > 13:  # A smaller disc may have no room for an identifier of this size.
                     self.assertGreaterEqual(view.identifier_size, 12.7, word)
                 self.assertGreater(view.form.widest_pill, max(text_width(view.form.word(rule), view.form.pill) for rule in RULES))
 

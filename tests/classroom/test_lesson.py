@@ -115,11 +115,12 @@ class Lesson(InRoom):
         return going.folder
 
     def run_on_full_disk(self, folder: Path) -> None:
-        """Continues the run in a folder with a limit on the size of files, which stands for a full disk, and ends it by
-        faults that fill the journal. At first all files are below the limit. The largest one may be the desk's record,
-        which has each denied close."""
+        """Continues the run with a limit on the size of the server's files, which stands for a full disk. Makes faults
+        until the journal reaches the limit and the run ends. At first all files are below the limit. The largest one
+        may be the desk's record, which has each denied close."""
         journal = folder / "journal"
         most = max(file.stat().st_size for file in (journal, *(folder / "record").iterdir())) // 1024 + 1
+        # Without the signal XFSZ, a write beyond the limit fails, as on a full disk.
         limited = self.file("host", f'#!/bin/bash\ntrap "" XFSZ\nulimit -f {most}\nexec "{host()}" "$@"\n')
         limited.chmod(0o755)
         going = Going(self, None, "run", "--resume", folder, MML_HOST=str(limited))

@@ -3,18 +3,27 @@ machines. The door has a process of its own, and its address is on the slips."""
 from __future__ import annotations
 
 import os
+import shutil
 import signal
 import subprocess
 import time
 import unittest
+import unittest.mock
+from contextlib import nullcontext
+from dataclasses import replace
 from pathlib import Path
 
 from classroom.client import Client, Closed, NoServer, Refused, Slip
-from classroom.core.folders import Record
+from classroom.core.classes import Class, Network
+from classroom.core.folders import Process, Record
 from classroom.core.program import host
 from classroom.door.routes import DoorData
+from classroom.run import class_again, letting, run
 from classroom.run.run import ports_for
-from tests.classroom.help import LIMIT, Going, InRoom, a_port, call_class, wait_until
+from classroom.run.several import words_of
+from classroom.setup.slips import folder_of
+from classroom.words import parser
+from tests.classroom.help import CYCLE, LIMIT, Going, InRoom, a_port, call_class, wait_until
 from tests.classroom.several import GoingClass
 
 
@@ -32,11 +41,11 @@ class Doors(InRoom):
         self.slip = Slip.read(self.room / "maths-slips/ben.slip")
 
     def begin(self, *more: str) -> Going:
-        """Starts a run with a door and these options."""
+        """Starts a run with a door, a page and these options. Its steps are closed by hand."""
         return Going(self, self.lab, "--door", f"127.0.0.1:{self.port}", "--close", "by-hand", "--page", str(a_port()), *more)
 
     def door(self, going: Going) -> DoorData:
-        """Returns the data of the run's door, from its folder."""
+        """Returns the data of the run's door, from its folder. Fails if it has none."""
         record = Record.read(going.folder)
         assert record is not None and record.door is not None
         kept = DoorData.read(Path(record.door))
@@ -44,7 +53,8 @@ class Doors(InRoom):
         return kept
 
     def connect(self) -> Client:
-        """Connects through the door as Ben, again and again until that succeeds. Returns the connection."""
+        """Connects through the door as Ben, again and again until that succeeds. Returns the connection. Fails after a
+        time limit."""
         end = time.monotonic() + LIMIT
         while True:
             try:
@@ -127,6 +137,55 @@ class Doors(InRoom):
             client.look(self.slip.nodes[0])
         self.assertEqual(going.end(), 0, going.lines)
         self.assertEqual(call_class("run", self.lab, "--into", self.room / "runs", "--door", str(self.port), "--certificate", self.lab).returncode, 4)
+
+
+class Resumed(InRoom):
+    """The ports of pages to play, if a run that continues gets a door by the option `--door`. No server is started."""
+
+    def folder(self, name: str, play: int | None, page: int | None = None) -> Path:
+        """Makes the folder of a run that has ended, and returns it. The run's page to play had the port `play`, and the
+        slips of the run's lab name the port `page`. If `play` is None, it had no such page. If `page` is None,
+        the lab has no slips."""
+        lab, folder = self.room / f"{name}.toml", self.room / "class" / name
+        shutil.copy(CYCLE, lab)
+        folder.mkdir(parents=True)
+        shutil.copy(CYCLE, folder / "lab.toml")
+        (folder / "journal").touch()
+        replace(Record.default(folder, 4711), lab=str(lab), play=play).write(folder)
+        if page is not None:
+            slips = folder_of(lab)
+            slips.mkdir()
+            (slips / "gus.slip").write_text(f"port 4711\nname gus\nkey k\nnodes 1\npage {page}\n", encoding="utf-8")
+        return folder
+
+    def resume(self, folder: Path, *options: str) -> unittest.mock.Mock:
+        """Calls `run --resume` with this folder and these options, but continues no run. Returns the call of the
+        function that would continue it."""
+        words = parser().parse_args(["run", "--resume", str(folder), *options])
+        with unittest.mock.patch.object(run, "to_the_end") as of_run, unittest.mock.patch.object(class_again, "hold_again") as of_class, \
+                unittest.mock.patch.object(letting, "door", return_value=nullcontext()):
+            run.run(words)
+        return of_class if of_class.called else of_run
+
+    def test_a_run_keeps_the_port_of_its_page_or_takes_the_one_on_its_slips(self) -> None:
+        """A port in the command comes first. Without a door no page is added."""
+        door = ("--door", "127.0.0.1:1")
+        for number, (play, page, options, port) in enumerate((
+            (4811, 4855, door, 4811), (4811, None, (*door, "--play", "4900"), 4900), (None, 4855, door, 4855), (None, None, door, run.PLAY),
+            (4811, None, (), 4811), (None, 4855, (), None),
+        )):
+            folder = self.folder(f"cycle-{number}", play, page)
+            with self.subTest(play=play, page=page, options=options):
+                self.assertEqual(self.resume(folder, *options).call_args[0][0].play, port)
+
+    def test_the_networks_of_a_class_keep_the_ports_of_their_pages(self) -> None:
+        """If they had none and their slips name none, the pages get consecutive ports."""
+        for kept, ports in (((4811, 4911), [4811, 4911]), ((None, None), [run.PLAY, run.PLAY + 1])):
+            folders = [self.folder(f"{kept[0]}-{number}", play) for number, play in enumerate(kept)]
+            networks = [Network(folder.name, "", str(self.room / f"{folder.name}.toml")) for folder in folders]
+            Class(networks, Process(0, "")).write(folders[0].parent)
+            words = self.resume(folders[0].parent, "--door", "127.0.0.1:1").call_args[0][0]
+            self.assertEqual([words_of(words, index)[-2:] for index in range(2)], [["--play", str(port)] for port in ports])
 
 
 class Ports(InRoom):

@@ -13,6 +13,8 @@ NOT_SAID = (
     r"entries may be lacking", r"^[^:]*: where ", r"the same words", r"tells the words", r"its keeper", r"left to itself",
     r"desk is held", r"is no part:", r"isn't handled", r"^classroom/bots/\w+: it (?!had|used)", r"by this look", r"nodes, \{\}, daemon",
     r"new configuration after place",
+    # The desk and the pages say "links between free nodes".
+    r"between two unmarried nodes", r"in the whole run, \{\} now",
 )
 
 

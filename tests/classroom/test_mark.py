@@ -1,6 +1,7 @@
 """`./class mark`: counts that are checked by hand, its forms, and refused journals. The *journal* of a run has its
 events, and the *record* all lines and replies of its connections. A move is *granted*, and *applied* when its step is
-closed. A *roster* is a list of students for which `mark` adds up their marks."""
+closed. A *roster* is a list of students for which `mark` adds up their marks. Many tests use the lab
+`GOOD.replace(*PAIR)`, a path of the nodes 11, 12 and 17: ana owns node 11, jonas owns 17, and both own 12."""
 from __future__ import annotations
 
 import csv
@@ -45,14 +46,16 @@ class Mark(InRoom):
     """Journals that scripts make."""
 
     def journal(self, lab: Path, script: Path) -> Path:
-        """Writes the journal of a script for a lab, and returns its path."""
+        """Runs a script, a file of requests, with this lab. Writes the run's journal, and returns its path. Fails if
+        the program does."""
         path = self.room / f"{script.stem}.journal"
         answer = program.call("script", lab, script, path)
         self.assertEqual(answer.status, 0, answer.error)
         return path
 
     def marks(self, lab: Path, *journals: Path) -> list[dict[str, Any]]:
-        """Returns the runs in the output of `./class mark --json`."""
+        """Returns the runs in the output of `./class mark --json` for this lab and these journals. Fails if the command
+        does."""
         done = call_class("mark", "--json", lab, *journals)
         self.assertEqual(done.returncode, 0, done.stderr)
         runs: list[dict[str, Any]] = json.loads(done.stdout)["runs"]
@@ -82,8 +85,8 @@ class Mark(InRoom):
             self.assertTrue(all(it["granted"] == it["applied"] for it in run["students"].values()))
 
     def test_moves_that_are_released_or_dropped_by_a_fault_are_granted_but_not_applied(self) -> None:
-        """Ana's first move is released, and the marriage of jonas is dropped by the fault at node 11. Node 12 belongs
-        to both. A move at a shared node is also counted for each owner by itself."""
+        """Ana's first move is released. The fault at node 11 drops the marriage that jonas has chosen, since a fault
+        drops all chosen moves. The move of jonas at node 12 is also counted there, as a move at a shared node."""
         lab = self.file("lab.toml", GOOD.replace(*PAIR))
         journal = self.file("journal", "1 0 grant ana 11 seduction\n2 0 release 11\n3 0 grant ana 11 seduction\n"
                                        "4 0 grant jonas 12 seduction\n5 0 close\n6 1 grant jonas 17 marriage 12\n"
@@ -136,6 +139,7 @@ class Mark(InRoom):
             self.assertIn(error, str(fault.exception))
 
     def test_illegal_journals_arguments_in_the_wrong_order_and_missing_files_are_refused(self) -> None:
+        """So is a folder without a run."""
         lab = self.file("lab.toml", GOOD.replace(*PAIR))
         done = call_class("mark", lab, self.file("journal", "1 0 grant jonas 11 seduction\n"))
         self.assertEqual(done.returncode, 3)
@@ -216,9 +220,12 @@ class Mark(InRoom):
             self.assertEqual(len(json.loads(done.stdout)["runs"]), 1)
 
     def test_students_with_unprintable_letters_in_their_names_are_found_in_the_roster(self) -> None:
-        """The first and the third student are granted a move each. The second roster lacks the fourth student. A lab of
-        version 1.0.0 has such letters in the escaped form in which they are printed."""
+        """`new` prints such letters in an escaped form, and writes them into the lab so that each character there is
+        printable. `mark` finds the students in two rosters, of which the second one lacks the fourth student, and in a
+        lab of version 1.0.0, which has the letters in the form in which they are printed. The first and the third
+        student are granted a move each."""
         names = ["Zoë\u00a0Müller", "می\u200cخواهم", "क्\u200dष", "Ben\x7f \"B\" \\ \u2028"]
+        # The first two students also have IDs, with letters of this kind.
         students = self.file("class.csv", "Name,ID\n" + "".join(
             '"{}",{}\n'.format(name.replace('"', '""'), f"\u00a0s\u200d{number}" if number < 2 else "") for number, name in enumerate(names)))
         lab = self.room / "lab.toml"
@@ -226,11 +233,12 @@ class Mark(InRoom):
         self.assertEqual(made.returncode, 0, made.stderr)
         table = made.stdout.split("\n\n")[1].split("\n")  # The students' table is the second paragraph.
         self.assertRegex(table[1], r"^Zoë\\xa0Müller \(s\\u200d0\) +zoe-mueller +lab +1$")
+        # The names of the network, `lab`, are below the head of their column.
         self.assertEqual({line.index("lab ") for line in table[1:]}, {table[0].index("network ")})
         self.assertTrue(all(map(str.isprintable, lab.read_text(encoding="utf-8").split("\n"))))
         people = labs.read(lab).people
         self.assertEqual([person.written for person in people.values()], [name.strip() for name in names])
-        # The third student owns node 3.
+        # The second grant is at node 3, since the third student owns this node.
         journal = self.file("journal", "".join(f"{place} 0 grant {name} {place} seduction\n" for place, name in enumerate(list(people)[::2], 1))
                             .replace(" 2 seduction", " 3 seduction"))
         for roster, more in ((students, ()), (self.file("names", "\n".join(names[:3]) + "\n"), ("--total",))):

@@ -45,7 +45,9 @@ class Names(unittest.TestCase):
         """Chinese characters aren't known, so nothing is left of such a name."""
         known = {"Zoë Müller": "zoe-mueller", "Łukasz Żółć": "lukasz-zolc", "Иван Жуков": "ivan-zhukov", "김철수": "gimceolsu",
                  "かな さくら": "kana-sakura", "O'Brien": "obrien", "1337": "s-1337", "王小明": "",
-                 "Müller, Zoë": "zoe-mueller", "محمد علي": "mhmd-aly", "שרה לוי": "shrh-lvy", "आरव शर्मा": "aarava-sharamaaa"}
+                 "Müller, Zoë": "zoe-mueller", "محمد علي": "mhmd-aly", "שרה לוי": "shrh-lvy", "आरव शर्मा": "aarava-sharamaaa",
+                 # Letters with a hamza above or below, such as the first one of أحمد, and the hamza alone.
+                 "أحمد": "ahmd", "إيمان مؤمن": "ayman-mwmn", "عائشة": "aaysha", "علاء": "ala", "موسى": "mwsa"}
         for name, form in known.items():
             self.assertEqual(names.lab_name(name), form)
 
@@ -206,7 +208,7 @@ class New(InRoom):
         self.clean()
         self.assertNotIn("note", self.new(*asked, "46"))
 
-    def test_limits_of_a_lab(self) -> None:
+    def test_more_events_sessions_or_students_than_a_lab_can_have_are_refused(self) -> None:
         """The error names what is too much, and what to do."""
         for option, limit in (("--events", MOST["events"]), ("--sessions", MOST["sessions"])):
             refused = self.new(option, str(limit + 1), status=2)

@@ -42,8 +42,8 @@ def items(page: str) -> list[tuple[str, str, str]]:
 
 
 class Beginnings(unittest.TestCase):
-    """The first entries of a session, up to its hello. In the record their place is that of the seat's last session,
-    so they may have come later."""
+    """The first entries of a session, up to its hello. In the record they have the last place of the seat's previous
+    session, so they may have come later."""
 
     def listed(self, *said: Entry) -> list[Said]:
         """Returns the rows of a session of gus with these entries, together with rows for two steps, which are the

@@ -29,6 +29,7 @@ class Live(InRoom):
     """Runs of the cycle of `examples/`, in which the test plays students."""
 
     def setUp(self) -> None:
+        """Opens the browser if this process has none yet, and reads the keys of the students."""
         super().setUp()
         self.driver: Any = browser()
         self.keys = read(CYCLE).students
@@ -63,7 +64,8 @@ class Live(InRoom):
         seconds.send_keys(text)
 
     def close_by(self, button: str, seconds: str = "") -> None:
-        """Chooses by a button when steps are closed, and waits until the page shows this."""
+        """Chooses by a button when steps are closed, and waits until the page shows this. If `seconds` isn't empty,
+        types it into the field for seconds before."""
         if seconds:
             self.fill_seconds(seconds)
         self.click(button)
@@ -305,8 +307,9 @@ class Live(InRoom):
                 self.assertNotIn(token.encode(), text)
         self.assertEqual(self.ask("POST", "/act", "close", Host=host), (404, b""))
         self.assertEqual(self.ask("POST", "/x/act", "fault 1 2 true", Host=host), (404, b""))
-        for words in ("ends", "who", "key gus", "daemon synchronous", "dance", "report", "close\nend", "", "é" * 200):
-            self.assertIn(self.ask("POST", f"{parts.path}act", words.encode("utf-8"), Host=host)[0], (400, 404), words)
+        for words, wanted in (*((words, 400) for words in ("ends", "who", "key gus", "daemon synchronous", "dance", "report", "close\nend", "")),
+                              ("é" * 200, 404)):
+            self.assertEqual(self.ask("POST", f"{parts.path}act", words.encode("utf-8"), Host=host)[0], wanted, words)
         self.assertEqual(self.end().joinpath("journal").read_bytes(), b"")
 
     def test_neither_the_page_nor_its_events_contain_a_key_or_the_token_to_act(self) -> None:

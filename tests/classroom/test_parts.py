@@ -5,15 +5,19 @@ from __future__ import annotations
 
 import argparse
 import json
+import re
 import shlex
 import shutil
 import subprocess
 import sys
 import unittest
+from dataclasses import replace
 from pathlib import Path
 
-from classroom.bots.parts import of, part
-from classroom.core.program import TOP
+from classroom.bots import experiment
+from classroom.bots.measuring import Row
+from classroom.bots.parts import joined, of, part
+from classroom.core.program import TOP, Fault
 from tests.classroom.help import EXAMPLES, LIMIT, InRoom, call_class
 
 # 54 runs: with three families, three sizes and two daemons, three runs each.
@@ -26,6 +30,7 @@ class Numbers(unittest.TestCase):
     """The items of a part, and the argument that names it."""
 
     def test_each_item_is_in_exactly_one_part(self) -> None:
+        """Without a part, `of` returns all items."""
         for count in (0, 1, 7, 20):
             for number in (1, 2, 3, 30):
                 every = [each for k in range(1, number + 1) for each in of(range(count), (k, number))]
@@ -38,6 +43,37 @@ class Numbers(unittest.TestCase):
         for word in ("0/8", "9/8", "2", "2/0", "-1/2", "a/b", "1/2/3", "٣/٤"):
             with self.assertRaises(argparse.ArgumentTypeError):
                 part(word)
+
+
+class Differing(InRoom):
+    """Files of parts that differ about the same run or case."""
+
+    def test_the_error_about_two_tables_names_both_files(self) -> None:
+        """The error names the table that differs, and the first table that has the run. This is the table of `--csv`,
+        or an earlier one of `--merge`."""
+        row = Row("path", 4, 3, "central", "random", 1, 5, 5, 2, True)
+        named = {name: self.table(name, rows) for name, rows in (
+            ("all.csv", [row]), ("same.csv", [row]), ("more.csv", [replace(row, seed=2)]), ("wrong.csv", [replace(row, moves=6)]),
+            ("wrong-2.csv", [replace(row, seed=2, moves=6)]))}
+        self.assertEqual([*experiment.joined(named["all.csv"], [named["same.csv"], named["more.csv"]]).values()], [row, replace(row, seed=2)])
+        for table, others, where in (("all.csv", ["same.csv", "wrong.csv"], "all.csv"), ("none.csv", ["same.csv", "wrong.csv"], "same.csv"),
+                                     ("all.csv", ["more.csv", "wrong-2.csv"], "more.csv")):
+            told = f"{named[others[-1]]}: the table {named[where]} has different numbers for the same run; "
+            with self.subTest(table=table, others=others), self.assertRaisesRegex(Fault, f"^{re.escape(told)}"):
+                experiment.joined(named.get(table, self.room / table), [named[name] for name in others])
+
+    def table(self, name: str, rows: list[Row]) -> Path:
+        """Writes a table with these rows, and returns its path."""
+        return self.file(name, ",".join(experiment.COLUMNS) + "\n" + "".join(map(experiment.line_of, rows)))
+
+    def test_the_error_about_two_results_of_a_case_names_both_files(self) -> None:
+        case: dict[str, object] = {"bot": "bot.py", "lab": "cycle", "daemon": "central", "seed": 1, "passed": True, "why": "", "moves": 4, "denied": {}}
+        files = [self.file(f"part-{number}.json", json.dumps([case | {"moves": moves}])) for number, moves in ((1, 4), (2, 5))]
+        order = [("bot.py", "cycle central 1")]
+        self.assertEqual(len(joined(files[:1], order)[0]), 1)
+        told = f"{files[1]}: the case bot.py cycle central 1 has a different result in {files[0]}: leave out one of the two files"
+        with self.assertRaisesRegex(Fault, f"^{re.escape(told)}$"):
+            joined(files, order)
 
 
 class Experiments(InRoom):
@@ -66,8 +102,8 @@ class Experiments(InRoom):
         self.check_bad_merges(files)
 
     def check_bad_merges(self, files: list[Path]) -> None:
-        """Checks that a merge without the last of these files counts only the runs that the others have. A merge is
-        refused if two tables differ about a run, or if a table doesn't exist."""
+        """Checks that a merge without the last of these files counts only the runs that the others have. Also checks
+        that a merge is refused if two tables differ about a run, or if a table doesn't exist."""
         done = call_class(*RUNS, "--merge", *files[:2], "--csv", self.room / "two.csv")
         self.assertEqual(done.returncode, 5)
         self.assertIn("36 of 54 runs are done, ", done.stdout)
@@ -77,7 +113,7 @@ class Experiments(InRoom):
         other = self.file("other.csv", "\n".join([text[0], ",".join(row)]) + "\n")
         said = call_class(*RUNS, "--merge", *files, other, "--csv", self.room / "differ.csv")
         self.assertEqual((said.returncode, said.stdout), (4, ""))
-        self.assertIn(f"{other}: another table has different numbers for the same run; ", said.stderr)
+        self.assertIn(f"{other}: the table {files[0]} has different numbers for the same run; ", said.stderr)
         self.assertEqual(call_class(*RUNS, "--merge", self.room / "none.csv", "--csv", self.room / "x.csv").returncode, 4)
 
     @unittest.skipUnless(shutil.which("parallel"), "not tried: parallel")
@@ -106,8 +142,9 @@ class Grades(InRoom):
         file.write_text(json.dumps(of(every, (number, count))), encoding="utf-8")
 
     def test_the_merged_results_are_those_of_one_call(self) -> None:
-        """Part 1 of 2 is graded, and part 2 is copied from the results of the whole grade. A merge without part 1 names
-        the missing case. With another suite, the results are refused, since it doesn't have their cases."""
+        """Part 1 of 2 is graded, and part 2 is copied from the results of the whole grade. Then the result in part 1 is
+        replaced too, since its numbers of moves and denials depend on the time. A merge without part 1 names the
+        missing case. With another suite, the results are refused, since it doesn't have their cases."""
         labs = self.room / "labs"
         labs.mkdir()
         (labs / "cycle.toml").write_bytes((EXAMPLES / "cycle.toml").read_bytes())

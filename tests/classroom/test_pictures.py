@@ -74,8 +74,8 @@ def render(picture: Path) -> Counter[str]:
 
 
 def alike(found: Counter[str], colour: str) -> int:
-    """Returns the number of pixels whose colour is nearly this one, since the pixels of thin lines are mixed with their
-    surroundings."""
+    """Returns the number of pixels whose colour is nearly this one. The pixels of thin lines are mixed with their
+    surroundings, so few of them have exactly the line's colour."""
     wanted = bytes.fromhex(colour[1:])
     return sum(count for other, count in found.items() if math.dist(wanted, bytes.fromhex(other[1:])) < NEAR)
 
@@ -94,8 +94,8 @@ class Pictures(InRoom):
         self.assertLess(found["#000000"], found.total() / 100, picture)
 
     def draw(self, lab: Path, journal: Path, places: str, *more: str) -> Path:
-        """Writes a picture of the configurations after these places, numbers of events with commas between them.
-        Returns its path."""
+        """Writes a picture by `./class play` with the options `more`, and returns its path. The picture shows the
+        configurations after the events with the numbers in `places`, which has commas between them."""
         output = self.room / f"{lab.stem}-{places.replace(',', '-')}.svg"
         done = call_class("play", lab, journal, "--svg", places, "-o", output, *more)
         self.assertEqual(done.returncode, 0, done.stderr)

@@ -113,6 +113,7 @@ class Play(Played):
             self.assertNotIn(key, text)
 
     def test_a_picture_of_a_place_has_its_registers_and_rules(self) -> None:
+        """A place that the run doesn't have is refused."""
         lab, journal = edited_run(self.room)
         _, frames = frames_of(lab, journal)
         for place, frame in enumerate(frames):

@@ -25,6 +25,8 @@ class OneConduct(unittest.TestCase):
     """The check of a program's requests, without a class."""
 
     def test_after_many_old_numbers_a_move_of_a_node_that_it_never_looked_at_is_no_error(self) -> None:
+        """The program looks at node 1 in the configurations 1 and 2, and then keeps asking with the old number 1 until
+        this is noted as a fault. After that, a move of node 9 raises no exception, and the first fault stays noted."""
         conduct = Conduct()
         for at in (1, 2):
             conduct.take({"do": "look", "node": 1}, {"ok": "look", "node": 1, "at": at}, True)
@@ -44,7 +46,7 @@ class Practise(InRoom):
         return call_class("practise", *given, "--into", self.room / "runs")
 
     def folder(self, output: str) -> Path:
-        """Returns the folder of an ended run, which its output names."""
+        """Returns the folder of an ended run, which is named in the run's output. Fails if none is named there."""
         found = re.search(r"(?m)^page: (\S+)/run.html; all lines and replies: (\S+)$", output)
         assert found is not None, output
         return Path(found[1])

@@ -107,6 +107,7 @@ class Served(unittest.TestCase):
         self.assertLess(len(json.dumps(told)), 1000)
 
     def test_new_events_and_lines_are_appended_without_copying_the_lists(self) -> None:
+        """The version of the data, which is 1 at the beginning, rises by 1 each time."""
         kept = self.present.events, self.present.lines
         for place in range(1, 1001):
             self.present.put(events=[Event(place, 0, ("close",))], line="closed")

@@ -45,12 +45,12 @@ class Readable(Played):
     """Pages of short runs."""
 
     def setUp(self) -> None:
-        """Opens the browser, whose usual theme is restored after the test."""
+        """Opens the browser. Restores its usual theme after the test, since other tests use it too."""
         super().setUp()
         self.addCleanup(show_as, self.driver)
 
     def test_texts_have_enough_contrast_in_both_themes(self) -> None:
-        """Each seventh configuration is looked at. The themes have different backgrounds."""
+        """Checks the beginning, and the state after each seventh event. The themes have different backgrounds."""
         for lab, journal in (edited_run(self.room), *examples(self.room)):
             self.open(self.page(lab, journal))
             grounds = []

@@ -91,8 +91,8 @@ class Resume(Cycle):
             pass
 
     def counted(self, folder: Path) -> dict[str, int]:
-        """Returns the number of moves of each student that the journal's closes applied, counted by the test
-        itself."""
+        """Returns the number of moves of each student that the journal's closes applied, counted by the test itself.
+        Leaves out students without such moves."""
         chosen: dict[str, str] = {}
         applied: Counter[str] = Counter()
         for line in (folder / "journal").read_text(encoding="ascii").splitlines():
@@ -107,7 +107,8 @@ class Resume(Cycle):
         return dict(applied)
 
     def marks(self, folder: Path) -> dict[str, int]:
-        """Returns the number of applied moves of each student, from the marks in the folder."""
+        """Returns the number of applied moves of each student, from the marks in the folder. Leaves out students
+        without such moves."""
         students = json.loads((folder / "marks.json").read_text(encoding="utf-8"))["runs"][0]["students"]
         return {name: total for name, it in students.items() if (total := sum(it["applied"].values()))}
 
@@ -166,7 +167,9 @@ class Resume(Cycle):
             server = server if kind == "run" else going.server()
             self.assertTrue(any(line.startswith("the class continues at configuration ") for line in going.lines), going.lines)
         players = Players(going.port, disturbs=False)
-        going.type("fault 1 2 true")  # The class may be stable since the last kill.
+        # The class may be stable since the last kill. After this fault it isn't, so the line that is awaited comes later.
+        going.type("fault 2 null true")
+        going.until(r"^configuration \d+: fault at node 2: p null, m true; ")
         going.until("; stable; ")
         players.end()
         self.assertEqual(going.end(), 0, going.lines)
@@ -180,6 +183,7 @@ class Resume(Cycle):
     def limited(self, kilobytes: int) -> Path:
         """Writes a script that starts the host with a limit of this many kilobytes on each file, also on its copy of
         the lab. For the host this is a full disk. Returns the script's path."""
+        # Without the signal XFSZ, a write beyond the limit fails, as on a full disk.
         limited = self.file("host", f'#!/bin/bash\ntrap "" XFSZ\nulimit -f {kilobytes}\nexec "{host()}" "$@"\n')
         limited.chmod(0o755)
         return limited

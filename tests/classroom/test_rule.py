@@ -18,7 +18,7 @@ from tests.classroom.runs import journal_of
 
 # The row of marks for which the tests compute values. `clause4` isn't known, as in a run without a record.
 ROW: dict[str, Value] = {"applied": Fraction(7), "nodes": Fraction(2), "student": "ana", "clause4": None, "whole": True}
-TAKEN = "is already the name of a column, of an earlier line or of a word of rules; choose another name"
+TAKEN = "is already the name of a column or of an earlier line, or has a meaning in rules; choose another name"
 
 
 def value(expression: str) -> str:

@@ -25,10 +25,9 @@ class Run(Cycle):
         self.assertIn(", stable", (going.folder / "audit.txt").read_text(encoding="utf-8"))
         self.assertGreater(self.check_complete(going.folder), 10)
 
-    def test_a_class_whose_steps_are_closed_by_hand(self) -> None:
-        """Checks what the desk prints for each typed command, and what a client is denied. A bot that is killed
-        disturbs nothing. The printed bounds are 3n + 2 min(L, n²/4) for n nodes and L links: 35 at first, and 33 after
-        a link is removed."""
+    def test_the_desk_prints_a_line_for_each_typed_command_and_a_denied_client_gets_the_reason(self) -> None:
+        """In this run steps are closed by hand. A bot that is killed disturbs nothing. The printed bounds are
+        3n + 2 min(L, n²/4) for n nodes and L links: 35 at first, and 33 after a link is removed."""
         going = Going(self, CYCLE, "--close", "by-hand")
         going.type("wait")
         self.assertIn("node 7 (jonas): abandonment", going.until("^waiting for "))

@@ -61,8 +61,8 @@ def take_seat(desk: int) -> str:
     it = socket.create_connection(("127.0.0.1", desk), LIMIT)
     it.sendall(json.dumps({"do": "hello", "name": "gus", "key": KEYS["gus"]}).encode() + b"\n")
     reply = it.makefile("rb").readline().decode()
-    # `detach` keeps the connection open after this function returns, as long as this process runs. A program that the
-    # process becomes or starts could inherit it, but the relay starts none.
+    # `detach` keeps the connection open after this function returns, until this process ends. A program that the
+    # process starts or becomes would inherit the connection, but the relay has no such program.
     os.set_inheritable(it.detach(), True)
     return reply
 

@@ -7,17 +7,20 @@ import os
 import re
 import signal
 import unittest
+from dataclasses import replace
+from datetime import datetime
 from pathlib import Path
 
 from classroom.client import Client
 from classroom.core import lab as labs
 from classroom.core.class_state import NetworkState
-from classroom.core.classes import Class, name_of
+from classroom.core.classes import Class, Network, name_of
 from classroom.core.program import host
 from classroom.run.addressed import addressed
-from classroom.run.member import DIED
+from classroom.run.member import DIED, Member, News
 from classroom.run.network_table import now_table, start_table
-from tests.classroom.help import CLASS, LIMIT, a_port, call_class, wait_until
+from classroom.run.several import Several, write_class
+from tests.classroom.help import CLASS, LIMIT, InRoom, a_port, call_class, wait_until
 from tests.classroom.several import Classes, GoingClass
 from tests.common.limits import MOST
 
@@ -44,8 +47,8 @@ class Lines(unittest.TestCase):
             with self.assertRaisesRegex(ValueError, f"^this class has no network {name}. Its networks are: 1 maths-1, 2 maths-2, 3 close$"):
                 addressed(line, NAMES)
 
-    def test_the_table_at_the_start_and_that_of_the_present_states(self) -> None:
-        """In both tables columns are aligned, and a value that isn't known is a dash."""
+    def test_the_tables_have_aligned_columns_and_a_dash_for_each_unknown_value(self) -> None:
+        """These are the table at the start, and the one of the present states."""
         one = NetworkState(1, "maths-1", "A 104", 4711, "http://127.0.0.1:4781/x/", 15, 11, "runs", "", {
             "configuration": 12, "stable": False, "privileged": [[4, "update"]], "moves": 5, "most": 35, "events": 20, "limit": 100,
             "missing": ["Ana L.", "Ben R.", "Cyd S.", "Dora E."]})
@@ -64,8 +67,8 @@ class Lines(unittest.TestCase):
         one.state["missing"] = None  # Without a record it isn't known who is missing.
         self.assertRegex(now_table([one]).split("\n")[1], "20 of 100 +-$")
 
-    def test_why_a_network_is_down(self) -> None:
-        """A line of a network's run that says why the network is down matches DIED. The alarm has this line."""
+    def test_lines_that_say_why_a_network_is_down_are_recognised(self) -> None:
+        """Such lines of a network's run match the pattern DIED. The alarm about the network has the line."""
         for line in ("the server has ended, by the signal SIGKILL", "nothing more is granted: the journal's file was changed. Undo it",
                      "the desk can't be used, because it has no connection to the server: no answer in 30 seconds"):
             self.assertIsNotNone(DIED.fullmatch(line), line)
@@ -74,6 +77,24 @@ class Lines(unittest.TestCase):
         for stems, name in (("maths-1 maths-2", "maths"), ("maths-10 maths-11", "maths"), ("a b", "class"), ("one one-2", "one"),
                             ("year2026-1 year2026-2", "year2026")):
             self.assertEqual(name_of([Path(f"{stem}.toml") for stem in stems.split()]), name)
+
+
+class Hung(InRoom):
+    """A desk whose terminal was closed."""
+
+    def test_a_closed_terminal_is_noted_in_the_file_of_the_class_even_if_the_file_is_damaged_or_missing(self) -> None:
+        network, lab = Network("maths-1", "A 104", "maths-1.toml"), labs.Lab(1000, 4, ("tess", "chalk"), {"ana": "a-key"}, [], [])
+        several = Several(self.room, [Member(1, network, self.room / "maths-1", lab, [], News())], News(), False)
+        write_class(several, datetime(2026, 11, 30, 10, 45), None)
+        written = Class.read(self.room)
+        assert written is not None
+        self.assertEqual((written.networks, written.left, written.ends), ([network], False, "2026-11-30T10:45:00"))
+        for content in ("x", "{}", None):
+            (self.room / "class.json").unlink()
+            if content is not None:
+                self.file("class.json", content)
+            several.note_hung()
+            self.assertEqual(Class.read(self.room), replace(written, left=True))
 
 
 @unittest.skipUnless(host(), "not tried: no host is built")

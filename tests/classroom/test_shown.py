@@ -95,7 +95,7 @@ def resize(driver: Any, size: tuple[int, int] | None) -> None:
 
 
 def counted(count: int, word: str) -> str:
-    """Returns a count with its noun."""
+    """Returns a count with its noun, which is in the plural unless the count is 1."""
     return f"{count} {word}{'' if count == 1 else 's'}"
 
 
@@ -141,7 +141,8 @@ class Watched(InRoom):
         return [line.split(" ") for line in (self.going.folder / "journal").read_text(encoding="ascii").splitlines()]
 
     def wanted(self) -> dict[str, str]:
-        """Returns the expected contents of the page, computed from the program's report and the journal."""
+        """Returns the expected texts of the page by the identifiers of their elements, computed from the program's
+        report and the journal."""
         report, lines = self.teacher.report(), self.journal()
         moves = since = chosen = 0
         links = len(self.lab.links)
@@ -158,7 +159,7 @@ class Watched(InRoom):
             "told": "At rest" if report.stable else counted(len(report.privileged), "node") + " can move", "pairs": counted(len(report.pairs), "pair"),
             "number": str(report.at), "since": str(since), "bound": str(bound),
             "event": f"event {lines[-1][0]}: {in_words(Event(0, 0, tuple(lines[-1][2:])))}" if lines else "the beginning of the run",
-            "counts": f"after event {len(lines)}: {counted(moves, 'move')} in the whole run, {counted(len(report.open), 'open link')} now",
+            "counts": f"after event {len(lines)}: {counted(moves, 'move')} in the whole run, {counted(len(report.open), 'link')} between free nodes now",
         }
 
     def descriptions(self) -> dict[int, str]:
@@ -243,7 +244,7 @@ class Sizes(Played):
     """Pages of networks of 14 nodes, and of the grid of `examples/`, in windows of several sizes."""
 
     def setUp(self) -> None:
-        """Opens the browser, whose usual size is restored after the test."""
+        """Opens the browser. Restores its usual size after the test, since other tests use it too."""
         super().setUp()
         self.addCleanup(resize, self.driver, None)
 
@@ -348,7 +349,7 @@ class Sizes(Played):
 
     def check_full_screen(self) -> None:
         """Checks that the key f shows the page on the full screen with a picture that isn't smaller, and that pressing
-        it again ends this. At the end presses Escape, which deselects a node."""
+        it again ends this. At the end presses Escape, so that no node is selected afterwards."""
         before = self.driver.execute_script(SIZES)["scale"]
         press(self.driver, "f")
         until(self.driver, lambda driver: driver.execute_script("return document.fullscreenElement !== null"))

@@ -19,6 +19,7 @@ from classroom.core.answering import Answering
 from classroom.core.lab import read
 from classroom.core.program import host
 from tests.classroom.help import CYCLE, EXAMPLES, KEYS, LIMIT, Cycle, Going, InRoom, call_class, no_server
+from tests.common.limits import MOST
 
 TOP = EXAMPLES.parent
 BOT, TEACHER = (sys.executable, EXAMPLES / "bot.py"), (sys.executable, EXAMPLES / "teacher.py")
@@ -56,6 +57,8 @@ class Files(InRoom):
     """Slips as files, and what is wrong with lines."""
 
     def test_new_makes_a_slip_for_each_student_and_for_the_teacher(self) -> None:
+        """Only the user who runs `new` can read these files. The slips for printing have the keys of the students, but
+        not that of the teacher."""
         students = self.file("students", "Zoë Müller\nBen\nCyd\nDan\n")
         done = call_class("new", self.room / "lab.toml", "--students", students, "--groups", "2", "--family", "path", "--port", "5000")
         self.assertEqual(done.returncode, 0, done.stderr)
@@ -126,9 +129,10 @@ class Files(InRoom):
             ("18446744073709551616", "the line is a number out of range, not an object"), ("true", "the line is true or false, not an object"),
             ('{"do":"move","node":2,"rule":"marriage","at":4}', 'the key "with" is missing (it names the neighbour that points at the node)'),
             ('{"do":"move","node":2,"rule":"dance","at":4}', 'rule is "dance", not one of update, marriage, seduction, abandonment'),
-            ('{"do":"see","node":1,"x":"' + "a" * 4096 + '"}', "the line has more than 4096 bytes: the server closes the connection"),
+            ('{"do":"bye"}'.ljust(MOST["line"] + 1), "the line has more than 4096 bytes: the server closes the connection"),
         ):
             self.assertEqual(wrong(line), what, line[:60])
+        self.assertIsNone(wrong('{"do":"bye"}'.ljust(MOST["line"])))
         for value, what in (("1e309", "a number is too large"), ("NaN", "the line isn't JSON: JSON has no number NaN"),
                             ('"\\ud800"', "a text has only half of a surrogate pair"), ('"\udcff"', "the line isn't UTF-8 at byte 27"),
                             ("[" * 127 + "]" * 127, "values are nested deeper than 127 levels")):
@@ -149,7 +153,7 @@ class Fake(InRoom):
     """Programs that connect to a listener of the test instead of a server. It sends what a server may send, or what
     another program would send."""
 
-    def answers(self, line: bytes, times: int = 1) -> int:
+    def serve_line(self, line: bytes, times: int = 1) -> int:
         """Listens at a free port, and sends `line` on each of `times` connections, one after another, before anything
         has come. Returns the port."""
         listener = socket.create_server(("127.0.0.1", 0))
@@ -173,9 +177,9 @@ class Fake(InRoom):
         """Writes a slip with that port, and returns its path."""
         return self.file(f"{port}.slip", f"port {port}\nname gus\nkey heron\nnodes 1\n")
 
-    def talks(self, *replies: bytes, then: tuple[bytes, ...] = ()) -> int:
-        """Listens at a free port, answers each line of one connection with the next reply, and hangs up. `then` are the
-        replies on a second connection. Returns the port."""
+    def serve_replies(self, *replies: bytes, then: tuple[bytes, ...] = ()) -> int:
+        """Listens at a free port, answers each line of one connection with the next reply, and closes the connection
+        after the last reply. `then` are the replies on a second connection. Returns the port."""
         listener = socket.create_server(("127.0.0.1", 0))
         self.addCleanup(listener.close)
 
@@ -193,29 +197,29 @@ class Fake(InRoom):
         return port
 
     def test_a_port_without_a_server_ends_a_program_with_status_4(self) -> None:
-        """Nobody listens at the port, or another program sends its own line, hangs up after a hello or stays silent."""
+        """Nobody listens at the port, or another program sends its own line, closes the connection or stays silent."""
         none = self.enterContext(no_server())
         for command in (*BOTS, BY_HAND):
             said = call(*command, self.slip(none))
             self.assertEqual((said.returncode, said.stdout), (4, ""), said.stderr)
             self.assertRegex(said.stderr, rf"^\w+(\.py)?: no server at port {none}.*\n$")
         for command in (*BOTS, BY_HAND):
-            port = self.answers(b"HTTP/1.1 400 Bad Request\r\n")
+            port = self.serve_line(b"HTTP/1.1 400 Bad Request\r\n")
             said = call(*command, self.slip(port))
             self.assertEqual((said.returncode, said.stdout), (4, ""), said.stderr)
             self.assertRegex(said.stderr, rf"^\w+(\.py)?: another program uses port {port}.*\n$")
-            said = call(*command, self.slip(self.talks()))
+            said = call(*command, self.slip(self.serve_replies()))
             self.assertEqual((said.returncode, said.stdout), (4, ""), said.stderr)
             self.assertRegex(said.stderr, r"^\w+(\.py)?: no server .*answers a hello.*\n$")
         with self.assertRaises(NoServer):
-            Client.from_slip(self.slip(self.answers(b"220 mail\r\n")))
+            Client.from_slip(self.slip(self.serve_line(b"220 mail\r\n")))
         with self.assertRaisesRegex(NoServer, r"^no server at port \d+ answers a hello: no answer in 0.2 seconds$"):
-            Client.from_slip(self.slip(self.answers(b"")), limit=0.2)
+            Client.from_slip(self.slip(self.serve_line(b"")), limit=0.2)
 
     def test_a_bot_asks_again_after_the_refusal_memory_and_ends_after_full(self) -> None:
         memory, full = b'{"refuse":"memory"}', b'{"refuse":"full"}'
         for command in BOTS:
-            said = call(*command, self.slip(self.talks(b'{"ok":"hello","who":"gus"}', memory, LOOK, memory, LOOK, full)))
+            said = call(*command, self.slip(self.serve_replies(b'{"ok":"hello","who":"gus"}', memory, LOOK, memory, LOOK, full)))
             self.assertEqual(said.returncode, 6, said.stdout + said.stderr)
             self.assertRegex(said.stderr, r"^\w+(\.py)?: nothing is granted any longer: tell your teacher\n$")
 
@@ -223,13 +227,13 @@ class Fake(InRoom):
         """The refusal `busy` during a connection says that its seat was given to a new connection."""
         hello = b'{"ok":"hello","who":"gus"}'
         for command in BOTS:
-            said = call(*command, self.slip(self.talks(hello, LOOK, b'{"refuse":"busy"}', then=(hello, b'{"refuse":"over"}'))))
+            said = call(*command, self.slip(self.serve_replies(hello, LOOK, b'{"refuse":"busy"}', then=(hello, b'{"refuse":"over"}'))))
             self.assertEqual(said.returncode, 0, said.stdout + said.stderr)
             self.assertRegex(said.stderr, r"^\w+(\.py)?: the run is over\n$")
 
     def test_a_bot_whose_output_nobody_reads_ends_without_a_message(self) -> None:
         """The status is 141, as after the signal SIGPIPE (128 + 13)."""
-        port = self.talks(b'{"ok":"hello","who":"gus"}', LOOK, b'{"at":0,"node":1,"ok":"move","place":1,"rule":"update"}')
+        port = self.serve_replies(b'{"ok":"hello","who":"gus"}', LOOK, b'{"at":0,"node":1,"ok":"move","place":1,"rule":"update"}')
         ours, theirs = os.pipe()
         os.close(ours)
         said = subprocess.run([*BOT, self.slip(port)], stdout=theirs, stderr=subprocess.PIPE, check=False, timeout=LIMIT)
@@ -238,23 +242,32 @@ class Fake(InRoom):
 
     def test_a_bot_that_comes_after_the_end_of_the_class_has_status_0(self) -> None:
         for command in BOTS:
-            said = call(*command, self.slip(self.answers(b'{"refuse":"over"}\n')))
+            said = call(*command, self.slip(self.serve_line(b'{"refuse":"over"}\n')))
             self.assertEqual((said.returncode, said.stdout), (0, ""), said.stderr)
             self.assertRegex(said.stderr, r"^\w+(\.py)?: the run is over\n$")
 
     def test_the_client_by_hand_says_why_the_server_has_closed_the_connection(self) -> None:
         for word, why in LAST.items():
-            said = call(*BY_HAND, self.slip(self.answers(b'{"refuse":"%s"}\n' % word.encode())), typed='{"do":"close"}\n')
+            said = call(*BY_HAND, self.slip(self.serve_line(b'{"refuse":"%s"}\n' % word.encode())), typed='{"do":"close"}\n')
             self.assertEqual((said.returncode, said.stdout), (0, f"the server has closed the connection: {why}\n"), said.stderr)
+
+    def test_by_hand_only_a_line_of_more_than_4096_bytes_is_the_reason_for_a_closed_connection(self) -> None:
+        """The server closes the connection after the hello, and says no reason."""
+        for size, why, note in ((MOST["line"], "the class is over, or the connection was lost", ""),
+                                (MOST["line"] + 1, LAST["long"], "client: the line has more than 4096 bytes: the server closes the connection\n")):
+            slip = self.slip(self.serve_replies(b'{"ok":"hello","who":"gus"}'))
+            said = call(*BY_HAND, slip, typed='{"do":"bye"}'.ljust(size) + "\n")
+            self.assertEqual(said.stdout.splitlines()[1:], [f"the server has closed the connection: {why}"])
+            self.assertEqual((said.returncode, said.stderr), (0, note))
 
     def test_a_bot_with_a_time_limit_gives_up_sooner_if_no_seat_is_free(self) -> None:
         """There are nine answers only, so a bot that tried for a minute would hang. The message is the usual one."""
-        said = call(*BOT, self.slip(self.answers(b'{"refuse":"busy"}\n', 9)), "0.5")
+        said = call(*BOT, self.slip(self.serve_line(b'{"refuse":"busy"}\n', 9)), "0.5")
         self.assertEqual((said.returncode, said.stdout), (5, ""))
         self.assertEqual(said.stderr, "bot.py: all seats were taken for a minute: try again later\n")
 
     def test_a_bot_gives_up_after_a_minute_in_which_no_seat_is_free(self) -> None:
-        slip = self.slip(self.answers(b'{"refuse":"busy"}\n', 1000))
+        slip = self.slip(self.serve_line(b'{"refuse":"busy"}\n', 1000))
         begun = time.monotonic()
         bots = [subprocess.Popen([*command, slip], stdout=subprocess.PIPE, stderr=subprocess.PIPE, text=True) for command in BOTS]
         for bot in bots:

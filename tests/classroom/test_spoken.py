@@ -37,7 +37,7 @@ class Spoken(Played):
     """The page of the run of the grid of `examples/`."""
 
     def setUp(self) -> None:
-        """Opens the browser, which has no preference about motion again after the test."""
+        """Opens the browser. Resets its preference about motion after the test, since other tests use it too."""
         super().setUp()
         self.addCleanup(self.prefer_motion)
 

@@ -146,6 +146,7 @@ class Rekeyed(InRoom):
             self.assertEqual(file.stat().st_mode & 0o777, 0o600, file)
 
     def test_key_refuses_an_unknown_student_a_key_in_another_form_and_what_is_no_lab(self) -> None:
+        """`key` can't change a key that is written in single quotes."""
         text = self.lab.read_text(encoding="utf-8")
         done = call_class("key", self.lab, "dora")
         self.assertEqual(done.returncode, 1)

@@ -5,6 +5,8 @@ from __future__ import annotations
 
 import concurrent.futures
 import json
+import socketserver
+import subprocess
 import sys
 import tempfile
 import threading
@@ -17,7 +19,7 @@ from classroom.bots.bots import Bot
 from classroom.bots.trial import Result, try_bot
 from classroom.core.processes import reap_orphans
 from classroom.core.program import TOP
-from tests.classroom.help import InRoom, call_class
+from tests.classroom.help import LIMIT, InRoom, call_class
 from tests.classroom.wrong_bots.wrong import BOTS
 
 WRONG = TOP / "tests/classroom/wrong_bots/wrong.py"
@@ -131,7 +133,8 @@ class Wrong(InRoom):
         return found
 
     def test_each_bot_fails_its_case_for_the_recorded_reason(self) -> None:
-        """Each bot of `wrong.py` has a case here. The cases of `full` begin first."""
+        """Each bot of `wrong.py` has a case here. The cases of `full` begin first, since one of them has a minute in
+        which nothing happens."""
         self.assertEqual({**FOUND, **IN_FULL}.keys(), BOTS.keys())
         self.assertLessEqual({plan for plan, _ in FOUND.values()}, {plan.name for plan in suites.SMALL})
         self.assertGreaterEqual(len(BOTS), 30)
@@ -154,8 +157,39 @@ class Wrong(InRoom):
             self.assertLessEqual(result.denied.keys(), {"stale", "chosen", "memory"})
 
 
+class Server(socketserver.StreamRequestHandler):
+    """A connection to a server that denies each move as one of another student's node."""
+
+    REPLIES = {
+        "hello": {"ok": "hello", "who": "bot"},
+        "look": {"at": 0, "chosen": None, "m": False, "near": [{"m": False, "node": 2, "p": None}], "node": 1, "ok": "look", "p": None, "rule": "seduction"},
+        "move": {"clause": 1, "deny": "not-owner", "text": "this node is not yours"},
+    }
+
+    def handle(self) -> None:
+        """Answers each line with the reply in REPLIES for its request."""
+        for line in self.rfile:
+            self.wfile.write(json.dumps(self.REPLIES[json.loads(line)["do"]]).encode() + b"\n")
+
+
 class Right(InRoom):
     """Bots without a mistake."""
+
+    def test_each_bot_ends_at_a_denial_that_shows_a_mistake(self) -> None:
+        """If one of a bot's threads ended without the others, the bot would keep running, but ask for no move."""
+        with socketserver.ThreadingTCPServer(("127.0.0.1", 0), Server) as server:
+            server.daemon_threads = True
+            threading.Thread(target=server.serve_forever, daemon=True).start()
+            slip = self.file("bot.slip", f"port {server.server_address[1]}\nname bot\nkey heron-31\nnodes 1\n")
+            bots = [subprocess.Popen([sys.executable, "-B", bot, slip], stderr=subprocess.PIPE, text=True) for bot in RIGHT]
+            for bot in bots:
+                self.addCleanup(bot.kill)
+            for bot, file in zip(bots, RIGHT):
+                with self.subTest(file.stem):
+                    error = bot.communicate(timeout=LIMIT)[1]
+                    self.assertIn(bot.returncode, (1, 3), error)
+                    self.assertNotIn("Traceback", error)
+            server.shutdown()
 
     def test_the_five_correct_bots_pass_each_case_of_small(self) -> None:
         self.assertEqual(len(RIGHT), 5)

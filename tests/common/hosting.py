@@ -38,7 +38,7 @@ with socket.create_connection(("127.0.0.1", int(sys.argv[1]))) as it, it.makefil
 
 
 def lab_of(room: Path, sessions: int, events: int = 1000) -> Path:
-    """Writes the built-in lab with these limits of sessions and events, and returns its path."""
+    """Writes the built-in lab with these limits of sessions and events into the folder `room`, and returns its path."""
     lab = room / f"{sessions}-{events}.toml"
     text = built_in(room).read_text(encoding="utf-8")
     text = text.replace("sessions = 4\n", f"sessions = {sessions}\n").replace("events = 100\n", f"events = {events}\n")
@@ -167,7 +167,7 @@ class Caller:
 
 def connect(port: int, source: str = "127.0.0.1") -> Caller:
     """Connects to a port from the address `source` of this machine, and returns the connection. Tries again while the
-    host doesn't accept any, and fails after a time limit."""
+    host doesn't accept any, and fails after a time limit. Fails at once if no host listens at the port."""
     end = time.monotonic() + LIMIT
     while True:
         try:
@@ -200,7 +200,8 @@ class Talk:
     ended, a later one gets its number."""
 
     def __init__(self, lab: Path, sessions: int, room: Path) -> None:
-        """Begins without a line. The script of the lines will run with this lab with `sessions` sessions, in the folder
+        """Begins a talk in which nothing has been said yet. `lab` is the lab of the host, and `sessions` is the number
+        of sessions that this lab allows. `check` will write its script, and the journal of this script, into the folder
         `room`."""
         self.lab, self.room = lab, room
         self.free = list(range(1, sessions + 1))  # the numbers that no open connection has
@@ -244,7 +245,7 @@ class Talk:
         self.free.append(self.numbers.pop(caller))
 
     def events(self) -> int:
-        """Returns the number of granted events."""
+        """Returns the number of granted events. Only the reply to a granted event has the event's place."""
         return sum(b'"place":' in reply for reply in self.found if reply)
 
     def check(self, journal: Path) -> None:

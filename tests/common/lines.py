@@ -16,7 +16,7 @@ DENIALS = {
 
 
 def line_of(**members: object) -> bytes:
-    """Returns the line of a request with these values, whose keys are sorted."""
+    """Returns the line of a request or a reply with these keys and values, in the order of the keys."""
     return json.dumps(members, separators=(",", ":"), sort_keys=True).encode() + b"\n"
 
 
@@ -58,7 +58,8 @@ def closed(at: int, place: int, *moved: int) -> bytes:
 
 
 def denial_of(word: str, **more: object) -> bytes:
-    """Returns the reply of the denial with this word, with its clause and its text."""
+    """Returns the reply of the denial with this word, with its clause and its text. `more` has further values of the
+    reply."""
     clause, text = DENIALS[word]
     return line_of(clause=clause, deny=word, text=text, **more)
 

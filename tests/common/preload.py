@@ -1,8 +1,8 @@
 """Runs the program with and without a preloaded library.
 
-The libraries are built from the tests' C sources by the toolchain's clang. The expected replies of a run come from
-a run without a library of the lines that were answered. MML_PROGRAM can name another program than the one that
-is built here.
+A preloaded library makes calls of the C library fail, or refuses requests for memory, and counts them. The libraries are
+built from the tests' C sources by the toolchain's clang. The expected replies of a run come from a run without a library
+of the lines that were answered. MML_PROGRAM can name another program than the one that is built here.
 """
 import os
 import shutil
@@ -51,13 +51,15 @@ class Preloaded:
     """A library, with its environment variables and the counts that it writes into a file."""
 
     def __init__(self, source: str, room: Path, counts: str) -> None:
-        """Builds the library. `counts` is the environment variable that names the file for its counts."""
+        """Builds the library of the C source `source` in the folder `room`. `counts` is the environment variable that
+        names the file for its counts."""
         self.library = build_library(source, room)
         self.variable = counts
         self.file = room / f"{self.library.stem}.counts"
 
     def variables(self, more: Mapping[str, str]) -> dict[str, str]:
-        """Returns the environment of a run with the library and the variables in `more`. Resets the library's counts."""
+        """Returns the environment of a run with the library and the variables in `more`. Sets the library's counts to
+        zero."""
         self.file.write_bytes(bytes(16))  # two numbers of eight bytes
         return {"LD_PRELOAD": str(self.library), self.variable: str(self.file), **more}
 
@@ -77,7 +79,7 @@ def run(words: list[str], given: bytes, variables: Mapping[str, str], program: P
 
 def good(words: list[str], given: bytes = b"", program: Path = PROGRAM) -> bytes:
     """Runs the program with the arguments `words` and `given` on standard input, without a library, and returns its
-    output. Fails if it doesn't end well."""
+    output. Fails if the program prints an error, or if its status isn't 0."""
     ended = run(words, given, {}, program)
     if ended.status != 0 or ended.error:
         fail(f"a plain run ended with {ended.status}: {words}")
@@ -92,8 +94,8 @@ class Story:
         self.lab = lab
         self.lines = script.splitlines(keepends=True)
         self.room = room
-        self.known: dict[frozenset[int], tuple[list[bytes], bytes]] = {}
-        self.audited: dict[bytes, bytes] = {}
+        self.known: dict[frozenset[int], tuple[list[bytes], bytes]] = {}  # the results of `plain`, by its argument
+        self.audited: dict[bytes, bytes] = {}  # the outputs of the audit, by journal
 
     def script(self, without: frozenset[int] = frozenset()) -> bytes:
         """Returns the script without the lines with these numbers."""
@@ -111,10 +113,11 @@ class Story:
         return self.known[without]
 
     def refused(self, replies: list[bytes]) -> frozenset[int]:
-        """Returns the numbers of the lines with a refusal among these replies."""
+        """Returns the numbers of the lines whose replies are refusals, because memory ran out or because the journal
+        couldn't be written."""
         return frozenset(at for at, reply in enumerate(replies) if reply.endswith(REFUSED))
 
-    def expects(self, replies: list[bytes], unasked: frozenset[int], lost: frozenset[int] = frozenset()) -> str:
+    def fault_in(self, replies: list[bytes], unasked: frozenset[int], lost: frozenset[int] = frozenset()) -> str:
         """Returns what is wrong with the replies to the script, or an empty text. A refused line changes nothing, so
         all other replies must be those of a run without this line. Lines in `unasked` have no reply, and the replies in
         `lost` aren't checked."""
@@ -128,8 +131,8 @@ class Story:
         return ""
 
     def journal_of(self, replies: list[bytes], unasked: frozenset[int]) -> bytes:
-        """Returns the expected journal of a run with these replies, in which the lines with the numbers in `unasked`
-        had none."""
+        """Returns the journal that a run must have written if it gave these replies. It is the journal of the script
+        without the lines that were refused, and without the lines with the numbers in `unasked`, which got no reply."""
         return self.plain(self.refused(replies) | unasked)[1]
 
     def audit(self, journal: bytes) -> bytes:
@@ -184,7 +187,8 @@ class Server:
             self.ended = self._end()
 
     def _end(self) -> Ended:
-        """Waits for the end of the process. Returns its status and output."""
+        """Waits for the end of the process. Returns its status and output. Fails, and kills the process, if it doesn't
+        end within a time limit."""
         try:
             out, error = self.process.communicate(timeout=LIMIT)
         except subprocess.TimeoutExpired:
@@ -213,7 +217,8 @@ class Client:
             pass
 
     def ask(self, line: bytes) -> bytes:
-        """Returns the reply to a line, or nothing if the server has hung up."""
+        """Sends a line, and returns its reply. If the server has hung up, or hangs up within the reply, closes the
+        connection and returns no bytes."""
         reply = b""
         if self.open is not None:
             try:

@@ -1,4 +1,4 @@
-"""Runs tests of a host side by side, since most of them wait. Each has its own folder."""
+"""Runs tests of a host (the server of a class) side by side, since most of them wait. Each has its own folder."""
 import sys
 import tempfile
 import time
@@ -22,11 +22,14 @@ def run_test(test: Test) -> float:
 
 def try_all(of: str, tests: Sequence[Test]) -> None:
     """Runs these tests, four at a time. If the command line has arguments, runs only the tests whose names contain one
-    of them. Prints a line that begins with the text `of`, with the number of the tests and their times. Fails if the
-    program isn't built."""
+    of them. Prints a line that begins with the text `of`, with the number of the tests and their times. Exits with
+    status 1 if a test fails, if there is no such test, or if the program isn't built. If there is no such test, prints
+    no line that begins with `FAILED`, since `tools/plant` takes such a line for the failure of a test."""
+    chosen = [test for test in tests if not sys.argv[1:] or any(word in test.__name__ for word in sys.argv[1:])]
+    if not chosen:
+        sys.exit(f"no test has {' or '.join(sys.argv[1:])} in its name. The tests are: {', '.join(test.__name__ for test in tests)}")
     if not HOST.is_file():
         fail("the program isn't built")
-    chosen = [test for test in tests if not sys.argv[1:] or any(word in test.__name__ for word in sys.argv[1:])]
     begun = time.monotonic()
     with ProcessPoolExecutor(4) as pool:
         times = list(pool.map(run_test, chosen))

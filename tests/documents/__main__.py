@@ -46,7 +46,8 @@ MARKS = ("sh not run", "text")
 
 
 def not_ignored() -> list[str]:
-    """Returns the paths of the repository's files: those that are committed, and new ones that git doesn't ignore."""
+    """Returns the paths of the repository's files: those that are committed, and new ones that git doesn't ignore.
+    Leaves out files that were removed."""
     listed = subprocess.run(["git", "ls-files", "-co", "--exclude-standard"], cwd=TOP, capture_output=True, text=True, check=True)
     return [path for path in listed.stdout.splitlines() if (TOP / path).exists()]
 
@@ -57,7 +58,8 @@ def is_page(path: str) -> bool:
 
 
 def words_of(files: list[str]) -> set[str]:
-    """Returns all words in the sources among these files, and the parts of their paths."""
+    """Returns all words in these files and in their paths. Leaves out the contents of pages and of the files in
+    `tests/documents/`."""
     found = set()
     for path in files:
         found |= set(re.findall(r"\w+", path))
@@ -73,8 +75,8 @@ def laws_of(files: list[str]) -> set[str]:
 
 
 def declared_in(text: str) -> set[str]:
-    """Returns the names that the text of a source declares: functions, types, clauses, definitions, and the arguments
-    of `impl From`."""
+    """Returns the names that the text of a source declares: functions, types, clauses and definitions, and `From<NAME>`
+    for each implementation of `From`."""
     names = set(re.findall(r"\b(?:fn|struct|enum|trait|type|const|ensures|requires) (\w+)", text))
     # A definition of `specs/` begins a line, after words such as `pub` or none.
     names |= set(re.findall(r"^(?:[a-z]+ )*([A-Za-z_]\w*)(?: |$)", text, re.MULTILINE))
@@ -113,9 +115,9 @@ def missing_contracts(page: str, texts: dict[str, str], declared: set[str], laws
             yield name
 
 
-def stands_for_another(text: str) -> bool:
-    """Returns whether a text has a word in capitals, which the reader replaces, as in `NAME.script`. The names of pages
-    such as README.md don't count."""
+def has_placeholder(text: str) -> bool:
+    """Returns whether a text has a word in capitals that the reader has to replace, as in `NAME.script`. The names of
+    pages such as README.md don't count."""
     return bool(re.search(r"(?<![A-Z])[A-Z]{3,}(?![A-Z]*\.md)", text))
 
 
@@ -124,7 +126,7 @@ def is_missing_path(page: str, text: str, files: list[str], folders: set[str]) -
     crate, a path that begins with a crate's folder, such as `src/`, has to be in this crate. Returns False for absolute
     paths, paths with placeholders, and those in ELSEWHERE."""
     path = text.rstrip("/").removeprefix("./")
-    if path.startswith("/") or stands_for_another(path) or path in ELSEWHERE:
+    if path.startswith("/") or has_placeholder(path) or path in ELSEWHERE:
         return False
     near = str((Path(page).parent / path))
     if re.match(r"crates/\w+/", page) and re.match(r"(src|specs|proofs|wrong)/", path):
@@ -182,9 +184,9 @@ def blocks_of(page: str) -> Iterator[tuple[str | None, list[str]]]:
 
 
 def is_run(page: str, mark: str | None, lines: list[str], texts: dict[str, str], data: set[str]) -> bool:
-    """Returns whether a test runs a code block of a page, or the block is marked, or its text is in `data`, the
-    contents of `examples/`. `mark` and `lines` are those of the block, and `texts` has the sources of tests that run
-    blocks."""
+    """Returns whether a test runs a code block of a page, or the block needs no test. A block needs none if its mark is
+    in MARKS, or if it has no command and all its lines are in `data`, the lines of `examples/`. `mark` and `lines` are
+    those of the block, and `texts` has the sources of the tests that run blocks."""
     if mark is not None:
         return mark in MARKS or (page, mark) in RUN_BY and page in texts[RUN_BY[page, mark]]
     commands = [line.removeprefix("$ ") for line in lines if is_command(line)]
@@ -216,7 +218,8 @@ def counted(pages: Iterable[str]) -> dict[str, int]:
 
 
 def main() -> None:
-    """Checks the documents, counts words, or prints the commands of pages."""
+    """Checks the documents, counts words, or prints the commands of pages, as the arguments say. Exits with status 1 if
+    something is missing or wrong."""
     counts = counted(path for path in not_ignored() if is_page(path) and path != "CHANGELOG.md")
     total = sum(counts.values())
     if sys.argv[1:] == ["--words"]:

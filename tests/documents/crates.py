@@ -5,7 +5,8 @@ provides, and the tests of each crate.
 
 A group begins with a comment line. The words of that line up to the first colon or comma are the group's title, and a
 comment `Provides NAME of CRATE` names such a function or law. An arrow leads to each group from the last one of those that it
-uses. A crate is tested in the crates `mml_tests_..` that use it, and in the folders of `tests/` that FOLDERS names.
+uses. A crate is tested in the crates `mml_tests_..` that use it, and in the folders of `tests/` that FOLDERS names. If
+there are none, the crate has only laws, and no code that runs.
 """
 from __future__ import annotations
 
@@ -17,11 +18,15 @@ from xml.sax.saxutils import escape
 TOP = Path(__file__).resolve().parents[2]
 PICTURE = TOP / "docs/crates.svg"
 TESTS = "mml_tests_"
+ONLY_LAWS = "laws alone"
+# What a source has that isn't only laws: types, traits, and functions with parameters. A law has no parameters.
+CODE = re.compile(r"(?m)^\s*(?:pub )?(?:fn \w+(?:<[^(]*>)?\((?!\))|(?:struct|enum|trait|impl)\b)")
 FOLDERS = {
     "mml_lab_file": ["labs", "resume"],
     "mml_tally": ["tally"],
     "mml_stable": ["scripts"],
     "mml_audit": ["journals"],
+    "mml_engine": ["scripts", "random"],
     "mml_record": ["record"],
     "mml_class": ["record", "tally"],
     "mml_recording": ["record"],
@@ -56,7 +61,7 @@ class Group:
 
 
 def groups(text: str) -> list[Group]:
-    """Returns the groups in the text of `crates.txt`. Leaves out comments before which no group begins with a crate."""
+    """Returns the groups in the text of `crates.txt`. A comment after which no crate follows makes no group."""
     found: list[Group] = []
     for line in text.splitlines():
         provided = re.fullmatch(r"# Provides (\w+) of (\w+)\.", line)
@@ -71,14 +76,19 @@ def groups(text: str) -> list[Group]:
 
 
 def tested_in(crate: str, all_groups: list[Group]) -> str:
-    """Returns a text with the crates and the folders of tests that test a crate, or that it consists of laws if none
-    does. Returns an empty text for a crate of tests. `all_groups` has the crates with those that they use."""
+    """Returns a text with the crates and the folders of tests that test a crate, or ONLY_LAWS if none does. Returns an
+    empty text for a crate of tests. `all_groups` has all crates with those that they use."""
     if crate.startswith(TESTS):
         return ""
     uses = {name: used for group in all_groups for name, used in group.crates.items()}
     crates = [name.removeprefix(TESTS) for name, used in uses.items() if name.startswith(TESTS) and crate in used]
     testers = [*crates, *(f"tests/{it}" for it in FOLDERS.get(crate, []))]
-    return "tested in " + ", ".join(testers) if testers else "laws alone"
+    return "tested in " + ", ".join(testers) if testers else ONLY_LAWS
+
+
+def has_code(crate: str) -> bool:
+    """Returns whether a crate has code that runs, and not only laws."""
+    return any(CODE.search(it.read_text(encoding="utf-8")) for it in (TOP / "crates" / crate / "src").rglob("*.rt"))
 
 
 def text_at(x: int, y: int, text: str, kind: str = "") -> str:
@@ -88,8 +98,8 @@ def text_at(x: int, y: int, text: str, kind: str = "") -> str:
 
 
 def band(group: Group, top: int, all_groups: list[Group]) -> tuple[list[str], int]:
-    """Returns the drawing of a group that begins at the height `top`, and the height of its end. `all_groups` has the
-    crates with those that they use."""
+    """Returns the SVG elements of the drawing of a group that begins at the height `top`, and the height of its end.
+    `all_groups` has all crates with those that they use."""
     rows = -(-len(group.crates) // COLUMNS)
     height = 30 + rows * (HEIGHT + GAP) + GAP
     width = COLUMNS * (WIDTH + GAP) + GAP
@@ -134,11 +144,15 @@ def drawing(text: str) -> str:
 
 def faults() -> list[str]:
     """Returns an error text if `docs/crates.svg` isn't the picture of `crates.txt`. Returns another one for each crate
-    that lacks the function or law which its group provides, and for each folder in FOLDERS that doesn't exist."""
+    that lacks the function or law which its group provides, for each crate with code that has no test in the picture,
+    and for each folder in FOLDERS that doesn't exist."""
     text = (TOP / "crates.txt").read_text(encoding="utf-8")
     is_so = PICTURE.exists() and PICTURE.read_text(encoding="utf-8") == drawing(text)
     found = [] if is_so else ["docs/crates.svg isn't that of crates.txt: python3 -B -m tests.documents.crates"]
-    for group in groups(text):
+    all_groups = groups(text)
+    for group in all_groups:
+        found += [f"docs/crates.svg says that {crate} has only laws, but it has code: name the folder of its tests in FOLDERS"
+                  for crate in group.crates if tested_in(crate, all_groups) == ONLY_LAWS and has_code(crate)]
         sources = (TOP / "crates" / group.of / "src").rglob("*.rt") if group.of in group.crates else iter(())
         declared = any(re.search(rf"pub fn {group.provides}\b", it.read_text(encoding="utf-8")) for it in sources)
         if group.provides and not declared:

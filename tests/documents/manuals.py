@@ -84,7 +84,7 @@ def term(action: argparse.Action) -> str:
     return ", ".join(map(bold, action.option_strings)) + takes
 
 
-def word(name: str) -> Iterator[str]:
+def section_of(name: str) -> Iterator[str]:
     """Yields the lines of the page class(1) about a subcommand: what it does, its arguments and options, and an
     example."""
     what, _ = EACH[name]
@@ -100,7 +100,7 @@ def classes() -> str:
     source = [*head("class", "a course on self-stabilising algorithms: labs, classes, marks"), ".SH SYNOPSIS", ".B class",
               r"\fIWORD\fP [\fI..\fP]", ".SH DESCRIPTION", plain(str(parser("").description)), ".SH WORDS"]
     for name in EACH:
-        source += word(name)
+        source += section_of(name)
     status = TABLE.partition(": ")[2]
     source += [".SH EXIT STATUS", plain(status[0].upper() + status[1:]) + "."]
     return "\n".join([*source, *foot("mml", "docs/TEACHER.md", "docs/STUDENT.md", "docs/COURSE.md", "docs/OPERATE.md")]) + "\n"

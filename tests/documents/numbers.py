@@ -36,8 +36,8 @@ def text(path: str) -> str:
 
 
 def only(pattern: str, path: str) -> str:
-    """Returns the single match of a pattern in a file of the repository. Raises `ValueError` if there is none or more
-    than one."""
+    """Returns the single match of a pattern in a file of the repository, or of the pattern's group if it has one.
+    Raises `ValueError` if there is no match or more than one."""
     found = re.findall(pattern, text(path), re.MULTILINE)
     if len(found) != 1:
         raise ValueError(f"{path} has {len(found)} times {pattern}")

@@ -43,7 +43,7 @@ def pattern(lines: list[str]) -> str:
 
 def page_that_differs(command: str, output: str, texts: dict[str, str]) -> str | None:
     """Returns the first of these pages that shows another output of a command than this one, or None if there is
-    none."""
+    none. A page shows no output if it has no lines below the command, or if the command begins with CONVERSATION."""
     for page, text in texts.items():
         for each, lines in shown(text):
             if each == command and lines and not each.startswith(CONVERSATION) and not re.fullmatch(pattern(lines), output):

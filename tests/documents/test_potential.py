@@ -17,7 +17,7 @@ HIGHEST = 5  # the highest node of this lab
 
 
 def rows(first: str) -> list[list[str]]:
-    """Returns the rows of the table on the page whose first head is this, each with its cells."""
+    """Returns the rows of the page's table whose first column has the head `first`, each as a list of cells."""
     table = re.search(rf"(?m)^\| {re.escape(first)} \|.*\n\|[-| ]+\|\n((?:\|.*\n)+)", PAGE)
     assert table, first
     return [[cell.strip() for cell in line.strip("|").split("|")] for line in table[1].splitlines()]
@@ -25,6 +25,7 @@ def rows(first: str) -> list[list[str]]:
 
 def own_part(world: World, i: int) -> int:
     """Returns the own part of node i in the potential (docs/SELF-STABILISATION.md), by the page's first table."""
+    # The rows are for a married node, an unmarried one, and an unmarried one that points at a lower node.
     married, unmarried, down = (row[1:] for row in rows("Own part of i"))
     column = 0 if world.m[i] else 1  # the table has a column for m true, and one for m false
     pointer = world.p[i]
@@ -35,6 +36,8 @@ def own_part(world: World, i: int) -> int:
 
 def link_part(world: World, i: int, j: int) -> int:
     """Returns the part that node i has in the potential for its higher neighbour j, by the page's second table."""
+    # If i points at j, the rows are: j points back, j isn't married although its m is true, or neither. If i doesn't
+    # point at j, they are: j is married and its m is true, or not.
     both, deceived, waits, settled, rest = (int(row[1]) for row in rows("Part of i for a higher neighbour j"))
     if world.p[i] == j:
         return both if world.p[j] == i else deceived if world.m[j] and not world.married(j) else waits

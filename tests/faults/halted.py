@@ -33,12 +33,14 @@ EIO, EMFILE = "5", "24"
 
 
 def failing(library: Preloaded, kind: str, nth: int, error: str) -> dict[str, str]:
-    """Returns the environment variables with which the nth call of a kind fails with this error."""
+    """Returns the environment variables with which the library makes the nth call of a kind, such as `write`, fail with
+    this error."""
     return library.variables({"FAIL": kind, "FAIL_AT": str(nth), "FAIL_WITH": error})
 
 
 def check_script(lab: Path, room: Path, library: Preloaded) -> None:
-    """Checks a script whose second event can't be written."""
+    """Checks the end, the replies and the journal of a script whose second event can't be written, because the second
+    write fails."""
     script, journal = room / "halted.script", room / "halted.journal"
     script.write_bytes(SCRIPT)
     journal.unlink(missing_ok=True)
@@ -48,8 +50,8 @@ def check_script(lab: Path, room: Path, library: Preloaded) -> None:
 
 
 def check_server(lab: Path, room: Path, library: Preloaded) -> None:
-    """Checks a server whose second event can't be written: the seventh write, after the first line, four replies
-    and the first event."""
+    """Checks a server whose second event can't be written. The write that fails is the seventh one, after those of the
+    server's first line, of four replies and of the first event."""
     journal = room / "halted.journal"
     journal.unlink(missing_ok=True)
     words = ["serve", str(lab)]

@@ -30,7 +30,7 @@ def move(at: int, node: int, rule: str) -> bytes:
     return line_of(at=at, do="move", node=node, rule=rule)
 
 
-def plays_a_move(talk: Talk, student: Caller, teacher: Caller, turn: int) -> None:
+def play_move(talk: Talk, student: Caller, teacher: Caller, turn: int) -> None:
     """Sends a move of ana's node, its close, a look, and a fault that makes the move possible again. These are three
     events, which lead to the next two configurations. `turn` says how often this was done before in the class."""
     talk.ask(student, move(2 * turn, 1, "seduction"))
@@ -39,18 +39,18 @@ def plays_a_move(talk: Talk, student: Caller, teacher: Caller, turn: int) -> Non
     talk.ask(teacher, fault_at(1))
 
 
-def looks_and_plays(talk: Talk, student: Caller, teacher: Caller, turn: int) -> None:
-    """Sends a hundred looks and reports, and then the requests of `plays_a_move`, to which `turn` is passed."""
+def look_and_play(talk: Talk, student: Caller, teacher: Caller, turn: int) -> None:
+    """Sends a hundred looks and reports, and then the requests of `play_move`, to which `turn` is passed."""
     for _ in range(50):
         talk.ask(student, look("ana"))
         talk.ask(teacher, REPORT)
         time.sleep(0.002)
-    plays_a_move(talk, student, teacher, turn)
+    play_move(talk, student, teacher, turn)
 
 
 def one_after_another(room: Path) -> None:
     """200 connections go through three seats. These connections end in every way: by a bye, by closing, within a line,
-    by a reset."""
+    by a reset. All replies and the journal are those of a script of the same lines."""
     lab, journal = lab_of(room, 4), room / "journal"
     with Host(lab, 0, 0, journal) as host:
         talk = Talk(lab, 4, room)
@@ -63,7 +63,7 @@ def one_after_another(room: Path) -> None:
             for line in (look(name), see, line_of(do="dance"), hello("ben"), REPORT):
                 talk.ask(caller, line)
             if name == "ana":
-                plays_a_move(talk, caller, teacher, turn // 3)
+                play_move(talk, caller, teacher, turn // 3)
             if turn % 4 == 0:
                 talk.leaves(caller)
                 continue
@@ -95,7 +95,8 @@ def through_one_seat(room: Path) -> None:
 
 
 def killed_in_a_line(room: Path) -> None:
-    """A bot and the teacher's program are killed in the middle of a line. New ones continue."""
+    """A bot and the teacher's program are killed in the middle of a line, which has no effect. New connections
+    continue."""
     lab, journal = lab_of(room, 2), room / "journal"
     with Host(lab, 0, 0, journal) as host:
         talk = Talk(lab, 2, room)
@@ -118,7 +119,7 @@ def killed_in_a_line(room: Path) -> None:
     talk.check(journal)
 
 
-def connects_often(port: int, count: int) -> None:
+def connect_often(port: int, count: int) -> None:
     """Opens and closes `count` connections to a port. Repeats those that fail."""
     made = 0
     while made < count:
@@ -141,12 +142,12 @@ def connect_and_close(room: Path) -> None:
         threads, files = host.threads(), host.files()
         turns, held = 0, [0, host.kilobytes()]
         while (held[-1] - held[-2]) * 50 > held[-1] and len(held) < 30:
-            loop = threading.Thread(target=connects_often, args=[host.port, 2000])
+            loop = threading.Thread(target=connect_often, args=[host.port, 2000])
             loop.start()
             # A slow machine needs longer for these connections. All lines have to fit into a script of one megabyte.
             most = turns + 10
             while loop.is_alive() and turns < most:
-                looks_and_plays(talk, student, teacher, turns)
+                look_and_play(talk, student, teacher, turns)
                 turns += 1
             loop.join()
             host.settles(threads, files, "after 2000 connections")
@@ -161,7 +162,7 @@ def connect_and_close(room: Path) -> None:
     talk.check(journal)
 
 
-def ends_after(caller: Caller, begun: float, piece: bytes, every: float, left: list[bytes]) -> float:
+def seconds_until_end(caller: Caller, begun: float, piece: bytes, every: float, left: list[bytes]) -> float:
     """Sends a piece every `every` seconds until the host ends the connection. Returns the seconds from the time `begun`
     until then, and appends the received lines to `left`. Fails after ten pieces."""
     sent, found = 0, b""
@@ -197,8 +198,8 @@ def deadlines(room: Path) -> None:
         told: list[list[bytes]] = [[] for _ in kept]
 
         def watch(at: int) -> None:
-            """Watches one kind of connection to its end."""
-            times[at] = ends_after(callers[at][0], begun, callers[at][1], 3.0, told[at])
+            """Waits for the end of the connection with the number `at`. Notes its seconds and its lines."""
+            times[at] = seconds_until_end(callers[at][0], begun, callers[at][1], 3.0, told[at])
 
         waits = [threading.Thread(target=watch, args=[at]) for at in range(len(kept))]
         for wait in waits:
@@ -322,9 +323,9 @@ BYES: list[tuple[bool, list[bytes]]] = [
 
 
 def byes_that_end_nothing(room: Path) -> None:
-    """Only a bye at the desk after the teacher's granted hello ends the class. Any other bye ends only its own connection:
-    one at the desk without a granted hello or after that of a student, and every one at the students' port (BYES). The
-    class also goes on if the teacher's connection ends without a bye."""
+    """Only a bye at the desk after the teacher's granted hello ends the class. Any other bye ends only its own
+    connection: one at the desk without a granted hello or after that of a student, and every one at the students' port
+    (BYES). The class also goes on if the teacher's connection ends without a bye."""
     lab, journal = lab_of(room, 4), room / "journal"
     with Host(lab, 0, 0, journal) as host:
         talk = Talk(lab, 4, room)
@@ -357,7 +358,7 @@ def byes_that_end_nothing(room: Path) -> None:
     talk.check(journal)
 
 
-def asks_on(port: int, name: str, asked: threading.Semaphore, wrong: list[str]) -> None:
+def ask_until_over(port: int, name: str, asked: threading.Semaphore, wrong: list[str]) -> None:
     """Sends looks and moves as the student `name` until the class is over or the host hangs up. Releases `asked` after
     each look and move. Appends a text to `wrong` for each reply that a seduction can't have."""
     caller, _ = let_in(port, hello(name))
@@ -375,7 +376,7 @@ def asks_on(port: int, name: str, asked: threading.Semaphore, wrong: list[str]) 
         asked.release()
 
 
-def sends_until_full(caller: Caller, line: bytes) -> None:
+def send_until_full(caller: Caller, line: bytes) -> None:
     """Sends a line again and again without reading replies, until the host accepts no more bytes, or after 64 MB."""
     caller.socket.setblocking(False)
     sent = 0
@@ -393,12 +394,12 @@ def ended_while_asked(room: Path) -> None:
     with Host(lab, 0, 0, journal) as host:
         teacher, _ = let_in(host.desk, hello("tess"))
         asked, wrong = threading.Semaphore(0), list[str]()
-        students = [threading.Thread(target=asks_on, args=[host.port, name, asked, wrong]) for name in [*NODES] * 2]
+        students = [threading.Thread(target=ask_until_over, args=[host.port, name, asked, wrong]) for name in [*NODES] * 2]
         for student in students:
             student.start()
         silent, half, deaf = (let_in(host.port, hello("cyd"))[0] for _ in range(3))
         half.send(b'{"do":')
-        sends_until_full(deaf, look("cyd"))
+        send_until_full(deaf, look("cyd"))
         for _ in range(20):
             for _ in range(20):  # until the students have made twenty more looks and moves
                 asked.acquire()

@@ -8,7 +8,8 @@ that, clients that send many lines and read late find all replies. Meanwhile a c
 minute, and is answered then.
 
 Each hostile client is a function that acts on a port until a time, with random choices, and returns what is wrong or an
-empty text.
+empty text. The program is a *server* (the command `serve`), which serves a given number of connections. With the
+argument `host` it is a *host* (the command `host`), which serves a class.
 """
 import math
 import random
@@ -86,7 +87,7 @@ def long_line(port: int, until: float, draw: random.Random) -> str:
         try:
             with it.makefile("rb") as replies:
                 return "" if replies.read() == (LONG if OVER_HOST else b"") else "a line that is too long was answered"
-        except ConnectionError:
+        except ConnectionError:  # The end may also come as a reset.
             return ""
 
 
@@ -179,7 +180,7 @@ ALL: list[Hostile] = [noise, long_line, half_line, byte_by_byte, reset, flood, g
 
 def honest_lines() -> bytes:
     """Returns a script of two honest clients, a student and the teacher: views and denied requests, and now and then a
-    move, its close, and a fault that makes the move possible again."""
+    move, its close, and a fault that makes the move possible again. It has at least MOST_LINES lines."""
     lines = ['1 {"do":"hello","key":"a-key","name":"ana"}', '2 {"do":"hello","key":"chalk","name":"tess"}']
     number = 0
     while len(lines) < MOST_LINES:
@@ -216,8 +217,8 @@ class Honest:
         self.at = 0
 
     def ask(self) -> float:
-        """Sends the next line, and checks that its reply is the same as in a quiet run. Returns the seconds that
-        it took."""
+        """Sends the next line. Fails if its reply isn't that of a script of the same lines. Returns the seconds that
+        the reply took."""
         number, line = self.lines[self.at]
         begun = time.monotonic()
         reply = self.clients[number].ask(line)
@@ -228,8 +229,8 @@ class Honest:
         return taken
 
     def play(self, most: int, pause: float, until: float = math.inf) -> list[float]:
-        """Sends `most` lines, or fewer if the time `until` comes first, with a pause after each. Returns the seconds
-        that each took."""
+        """Sends `most` lines, with `pause` seconds after each. Sends fewer if the time `until` comes first, or if there
+        are no further lines. Returns the seconds that each reply took."""
         times: list[float] = []
         while self.at < len(self.lines) and len(times) < most and time.monotonic() < until:
             times.append(self.ask())
@@ -246,8 +247,8 @@ class Honest:
 
 
 def start_server(lab: Path, connections: int) -> Program:
-    """Starts a server for this number of connections, or a host, which has no such number. Fails if it doesn't
-    listen."""
+    """Starts and returns a server for this number of connections, or a host, which has no such number. Fails if it
+    doesn't listen."""
     server: Program
     if OVER_HOST:
         server = Host(lab, 0, 0)
@@ -304,8 +305,8 @@ def wait_for_handles(server: Program, wanted: int, when: str) -> None:
 
 
 def read_late(lab: Path) -> None:
-    """Checks clients that send more after a bye, or a line that is too long, and read late. All replies arrive, and then
-    the end."""
+    """Checks sixteen clients that read late. Each sends a hundred lines, and then either a bye and more bytes or a line
+    that is too long. All replies have to arrive, and then the end."""
     server = start_server(lab, 16)
     for tail, said in [(BYE + b"x" * 5000, BID), (b"x" * 20_000, b"")] * 8:
         with connect(server.port) as it, it.makefile("rb") as replies:
@@ -351,8 +352,9 @@ def resting(server: Program) -> tuple[int, int]:
 
 
 def work(room: Path) -> str:
-    """Runs the late readers, a quiet run, and a run beside the hostile clients. With a server, a silent client is
-    connected all the time."""
+    """Checks the clients that read late, a run of the honest clients alone, and their run beside the hostile clients.
+    Unless the program is a host, a silent client is connected to another server all the time. Returns a line about the
+    last run."""
     numbers = [float(word) for word in sys.argv[1:] if word != "host"]
     seconds = numbers[0] if numbers else SECONDS
     if OVER_HOST and not HOST.is_file():

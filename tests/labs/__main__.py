@@ -22,7 +22,8 @@ def check_row(row: Row, room: Path) -> None:
 
 
 def work(room: Path) -> str:
-    """Checks all rows. Returns a line with their number."""
+    """Checks the program's verdict on the lab of each row, and also the lab's contents if the row has them. Returns a
+    line with the number of rows."""
     rows = all_rows() + computed_rows()
     for row in rows:
         check_row(row, room)

@@ -47,16 +47,16 @@ def built_in() -> str:
 
 
 def changed(name: str, base: str, row: dict[str, Any]) -> str:
-    """Returns the document `base` with the replacement of a row, whose old text has to occur once. `name` is that of
-    the row, for the error."""
+    """Returns the document `base` with the row's text `new` instead of `old`. Fails, with the row's name `name`, unless
+    `old` occurs exactly once."""
     if base.count(row["old"]) != 1:
         fail(f"{name}: {row['old']!r} doesn't stand once in its document")
     return base.replace(row["old"], row["new"])
 
 
 def document_of(name: str, table: dict[str, Any], row: dict[str, Any], last: str) -> bytes:
-    """Returns the bytes of a row's document. `table` has the defaults of all its rows, and `last` is the document of
-    the row before."""
+    """Returns the bytes of a row's document. `name` is that of the row, `table` has the defaults of all its rows, and
+    `last` is the document of the row before."""
     if "old" in row:
         base = last if row.get("goes_on") else table.get("base", built_in())
         return changed(name, base, row).encode()
@@ -67,7 +67,7 @@ def document_of(name: str, table: dict[str, Any], row: dict[str, Any], last: str
 
 
 def rows_of(path: Path) -> list[Row]:
-    """Returns the rows of a table."""
+    """Returns the rows of the table in a file. Fails unless each row has exactly one of `says` and `shows`."""
     table = tomllib.loads(path.read_text(encoding="utf-8"))
     rows: list[Row] = []
     last = b""

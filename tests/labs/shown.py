@@ -39,7 +39,7 @@ class Shown:
         self.lab.write_bytes(row.document)
 
     def fail(self, why: str) -> None:
-        """Fails with the name of the row."""
+        """Fails with the name of the row and the reason `why`."""
         fail(f"{self.row.name}: {why}")
 
     def size(self) -> list[str]:
@@ -108,7 +108,8 @@ def text_of(nodes: list[int], students: list[str], replies: list[dict[str, Any]]
 
 
 def compare(row: Row, room: Path) -> None:
-    """Checks that the program reads from a row's document the lab that `row.shows` describes."""
+    """Checks that the program reads from a row's document the lab that `row.shows` describes. Writes the files for that
+    into the folder `room`."""
     shown = Shown(row, room)
     head, *parts = row.shows.split("; ")
     events, sessions = (int(word) for word in head.split()[:2])

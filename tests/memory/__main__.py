@@ -6,7 +6,8 @@
     python3 -m tests.memory classes   the commands `host` and `resume` alone
     python3 -m tests.memory tests     the tests inside the crates alone
 
-Each use is run several times. In the first run the first request for memory is refused, in the next one the second
+A *use* is a command with its arguments and its input. A preloaded library (`refuse.c`) refuses the program memory. Each
+use is run several times. In the first run the first request for memory is refused, in the next one the second
 request, and so on, until a run meets no refusal. Each run ends with status 5 and the line `out of memory`, and changes
 nothing, or it continues. Then it answers some lines by `memory`, and all other lines as a plain run without those
 lines. Its journal is that of the plain run, and passes the audit. Each line is twice in the script, so that a refused
@@ -25,13 +26,14 @@ from tests.memory.refusing import OUT_OF_MEMORY, Tried, Use, done_line, memories
 
 
 def fault_and_replies(story: Story, ended: Ended) -> tuple[str, list[bytes]]:
-    """Returns what is wrong with the end and the replies of a story's script, or an empty text, and the replies."""
+    """Returns two values: what is wrong with the end and the replies of a story's script, or an empty text, and then
+    these replies. `ended` is the end of the run."""
     replies = ended.out.splitlines(keepends=True)
     if ended.status != 0 or ended.error:
         return "another end", replies
     if len(replies) != len(story.lines):
         return "a line without a reply", replies
-    return story.expects(replies, frozenset()), replies
+    return story.fault_in(replies, frozenset()), replies
 
 
 def scripted(story: Story, room: Path, name: str) -> Use:
@@ -42,8 +44,9 @@ def scripted(story: Story, room: Path, name: str) -> Use:
     words = ["script", str(story.lab), str(script), str(journal)] if with_words else []
     given = b"" if with_words else story.script()
 
-    def use(variables: dict[str, str]) -> Tried:
-        """Runs the script with refusals. Returns its end and what is wrong."""
+    def run_script(variables: dict[str, str]) -> Tried:
+        """Runs the script while `variables` make the library refuse memory. Returns its end, what is wrong, and the
+        number of replies `memory`."""
         journal.unlink(missing_ok=True)
         ended = run(words, given, variables)
         if ended == OUT_OF_MEMORY:
@@ -55,7 +58,7 @@ def scripted(story: Story, room: Path, name: str) -> Use:
                 fault = "another journal"
         return Tried(ended, fault, memories(replies))
 
-    return use
+    return run_script
 
 
 def fault_of_end(ended: Ended, replies: list[bytes], audited: bytes) -> str:
@@ -87,8 +90,9 @@ def served(story: Story, room: Path) -> Use:
     """Returns the use of a server with a journal and two clients."""
     journal = room / "served.journal"
 
-    def use(variables: dict[str, str]) -> Tried:
-        """Runs the server with refusals. Returns its end and what is wrong."""
+    def run_server(variables: dict[str, str]) -> Tried:
+        """Runs the server while `variables` make the library refuse memory. Returns its end, what is wrong, and the
+        number of replies `memory`."""
         journal.unlink(missing_ok=True)
         server = Server(lambda port: ["serve", str(story.lab), str(port), "2", str(journal)], variables)
         if not server.listens:
@@ -98,13 +102,13 @@ def served(story: Story, room: Path) -> Use:
         kept = journal.read_bytes()
         fault = (
             closed_after_a_reply(story, unasked)
-            or story.expects(replies, unasked)
+            or story.fault_in(replies, unasked)
             or fault_of_end(ended, replies, story.audit(kept))
             or ("" if kept == story.journal_of(replies, unasked) else "another journal")
         )
         return Tried(ended, fault, memories(replies))
 
-    return use
+    return run_server
 
 
 def refused_tests(library: Preloaded) -> str:
@@ -117,6 +121,7 @@ def refused_tests(library: Preloaded) -> str:
             name = line.removesuffix(": test")
             if not name.rsplit("::", 1)[-1].startswith("refusals_"):
                 continue
+            # Each of these tests controls the library itself, by requests of more bytes than any machine has.
             done = subprocess.run(
                 [program, name], capture_output=True, env=library.variables({}), timeout=LIMIT, check=False
             )
@@ -129,7 +134,8 @@ def refused_tests(library: Preloaded) -> str:
 
 
 def refused_uses(library: Preloaded, room: Path) -> str:
-    """Refuses memory in all uses of the program. Returns the lines about them."""
+    """Refuses memory in uses of the commands `check`, `script`, `audit` and `serve`, and in one without a command.
+    Returns a text with the number of refusals in each use."""
     lab = built_in(room)
     lines = (TOP / "examples/whole-run.script").read_bytes().splitlines(keepends=True)
     story, once = Story(lab, b"".join(line + line for line in lines), room), Story(lab, b"".join(lines), room)
@@ -148,17 +154,22 @@ def refused_uses(library: Preloaded, room: Path) -> str:
 
 
 def refused_hosts(library: Preloaded, room: Path) -> str:
-    """Refuses memory in all uses of the commands that judge a class or answer a script. Returns the lines about them."""
+    """Refuses memory in uses of the commands that judge a class or answer a script. Returns a text with the number of
+    refusals in each use."""
     return "by a host: " + ", ".join(refuse_all(name, use, library) for name, use in host_uses(room).items())
 
 
 def work(room: Path) -> str:
-    """Runs the parts that the arguments name, or all. Returns the lines about them."""
-    library = Preloaded("memory/refuse.c", room, "REFUSE_COUNTS")
+    """Runs the part that the argument names, or all parts if there is no argument. Returns their texts in one line.
+    Exits with status 1 if there is no such part, or if there are several arguments."""
     parts: dict[str, Callable[[Preloaded, Path], str]] = {
         "uses": refused_uses, "hosts": refused_hosts, "classes": classes, "tests": lambda library, _: refused_tests(library),
     }
-    return "; ".join(part(library, room) for name, part in parts.items() if sys.argv[1:] in ([], [name]))
+    chosen = [part for name, part in parts.items() if sys.argv[1:] in ([], [name])]
+    if not chosen:
+        sys.exit(f"there is no part {' '.join(sys.argv[1:])}: write one of {', '.join(parts)}, or nothing for all of them")
+    library = Preloaded("memory/refuse.c", room, "REFUSE_COUNTS")
+    return "; ".join(part(library, room) for part in chosen)
 
 
 if __name__ == "__main__":

@@ -72,7 +72,7 @@ class Play:
     """The lines of a class and their replies."""
 
     def __init__(self, host: Host, begun: Begun) -> None:
-        """`host` is the running host, and `begun` the state from which its class continues."""
+        """Begins without a reply. `host` is the running host, and `begun` the state from which its class continues."""
         self.host = host
         self.script = list(begun.script)
         self.known = len(self.script)  # lines of the class before, whose replies nobody compares
@@ -83,8 +83,8 @@ class Play:
         self.is_over = self.is_desk_alone = self.is_lost = False
 
     def reply_to(self, caller: Caller, line: bytes) -> Optional[bytes]:
-        """Sends a line on a connection, and returns its reply. Returns no bytes if the connection is closed, and None if
-        the students' port isn't served."""
+        """Sends a line on a connection, and returns its reply. Returns no bytes if the connection is closed, and None
+        if the students' port isn't served."""
         caller.send(line)
         # A student's hello is the first line at the students' port. If it is answered, the port is served.
         if line == hello("ana") and not select.select([caller.socket], [], [], PATIENCE)[0]:
@@ -92,8 +92,9 @@ class Play:
         return caller.line()
 
     def ask(self, who: bytes, line: bytes) -> str:
-        """Sends a line of the person `who`, connects first if necessary, and sends the line again if it gets no reply
-        of the rules. Does nothing once the class is over. Returns what is wrong, or an empty text."""
+        """Sends a line of the person `who`, on a new connection if there is none. Sends the line again if it gets no
+        reply of the rules, TRIES times at most. Notes the line and its reply. Does nothing if the class is over, or if
+        the person's port isn't served. Returns what is wrong, or an empty text."""
         for _ in range(TRIES):
             if self.is_over or (who == STUDENT and self.is_desk_alone):
                 return ""
@@ -108,6 +109,7 @@ class Play:
                 self.is_desk_alone = True
             elif reply in (b"", BUSY):
                 self.lacks += 1
+                # If the person's hello is in the script, it was granted before the connection ended.
                 self.is_lost |= who + hello("tess" if who == TEACHER else "ana") in self.script[self.known:]
                 self.callers.pop(who).close()
             elif reply == OVER:
@@ -121,7 +123,8 @@ class Play:
         return "" if self.is_desk_alone else f"{line!r} was asked {TRIES} times, and not answered"
 
     def ask_all(self, asked: Sequence[tuple[bytes, bytes]]) -> str:
-        """Sends all lines and the teacher's bye. Returns what is wrong, or an empty text."""
+        """Sends these lines, each after its person, and the teacher's bye. Checks how the connections end after the
+        bye. Returns what is wrong, or an empty text."""
         for who, line in [*asked, (TEACHER, BYE)]:
             if fault := self.ask(who, line):
                 return fault
@@ -129,6 +132,7 @@ class Play:
             return ""
         if self.replies[-1] != TEACHER + BID:
             return f"{self.replies[-1]!r} to the teacher's bye"
+        # The teacher's connection is closed, and a student's may get the line `over` before.
         for who, caller in self.callers.items():
             if (last := caller.line()) not in (b"", OVER) or (who == TEACHER and last):
                 return f"{last!r} to a connection after the teacher's bye"
@@ -144,12 +148,13 @@ class Class:
     """The runs of the command `host` or `resume`, each in its own folder, in which the same lines are sent."""
 
     def __init__(self, word: str, lab: Path, asked: Sequence[tuple[bytes, bytes]], begun: Begun) -> None:
-        """`word` is the command of the host, `asked` has the lines, each after its person, and `begun` is the state to
-        continue from."""
+        """Keeps what all runs have in common. `word` is the command of the host, and `lab` is its lab. `asked` has the
+        lines, each after its person, and `begun` is the state from which the class continues."""
         self.word, self.lab, self.asked, self.begun = word, lab, asked, begun
 
     def run(self, room: Path, library: Preloaded, nth: int) -> Outcome:
-        """Runs the command with a refusal of the nth request for memory. Returns the outcome."""
+        """Runs the command in the new folder `room` with a refusal of the nth request for memory, or with none if `nth`
+        is 0. Returns the outcome."""
         if self.begun.folder is None:
             room.mkdir()
         else:
@@ -179,9 +184,13 @@ class Class:
         return Outcome(ended, counts, fault, play.lacks, play.is_desk_alone)
 
     def fault_of(self, play: Play, ended: Ended, is_refused: bool, room: Path) -> str:
-        """Returns what is wrong with a class that has begun, or an empty text. `play` has its lines and replies,
-        `ended` is the end of the host, `is_refused` says whether memory was refused, and the class's files are in
-        `room`."""
+        """Returns the first thing that is wrong with a class that has begun and ended, or an empty text. The replies must
+        be those of a script of the same lines. The journal must have the events that these replies granted, and may have
+        one more if the host ended during the run. If no request for memory was refused, every line must have got its
+        reply, and the host must have ended well. If one was refused, one line may have been sent again, and the host may
+        have ended because memory ran out. Fails if the journal doesn't pass the audit, or the record doesn't pass
+        `verify`. `play` has the lines and replies, `ended` is the end of the host, `is_refused` says whether a request
+        for memory was refused, and the class's files are in `room`."""
         script, plain, journal = room / "script", room / "plain", room / "journal"
         script.write_bytes(b"".join(play.script))
         wanted = good(["script", str(self.lab), str(script), str(plain)]).splitlines(keepends=True)[play.known:]
@@ -197,9 +206,11 @@ class Class:
         well = Ended(0, done, b"")
         if play.is_over:
             return "" if is_refused and ended == OUT_OF_MEMORY else "another end"
+        # One refused request for memory can leave at most one line without a reply of the rules.
         if play.is_lost or play.lacks > is_refused:
             return "more than one line was refused, or a session lost after its greeting"
-        # If a session or the end ran out of memory, the last line says so. Without memory for the end it is the only line.
+        # If a session or the end ran out of memory, the last line says so. Without memory for the end it is the only
+        # line.
         ends = (well, Ended(5, done, b"out of memory\n"), OUT_OF_MEMORY) if is_refused else (well,)
         return "" if ended in ends else "another end"
 
@@ -221,14 +232,16 @@ def fault_of_all(outcomes: Sequence[Outcome]) -> str:
 
 
 def refuse_class(tried: Class, library: Preloaded, room: Path) -> str:
-    """Runs a class with a refusal of each request for memory in turn. Returns a line with the number of refusals."""
+    """Runs a class with a refusal of each request for memory in turn. Fails if something is wrong with a run. Returns a
+    text with the number of refusals."""
     room.mkdir()
     plain = tried.run(room / "plain", library, 0)
     if plain.fault or plain.lacks:
         fail(f"{tried.word}, refused nothing: {plain.fault}: {plain.ended}")
 
     def run(nth: int) -> Outcome:
-        """Runs the class with a refusal of the nth request. Returns the outcome."""
+        """Runs the class with a refusal of the nth request for memory. Returns the outcome. Fails if something is wrong
+        with it."""
         outcome = tried.run(room / str(nth), library, nth)
         if outcome.fault:
             fail(f"{tried.word}, REFUSE={nth}: {outcome.fault}: {outcome.ended}")
@@ -247,6 +260,7 @@ def begun_by(first: Class, room: Path, library: Preloaded) -> Begun:
     if fault := first.run(room, library, 0).fault:
         fail(f"{first.word}, refused nothing: {fault}")
     script = [who + line for who, line in first.asked]
+    # These files are of the check of this run, and don't belong to the class.
     for name in ("script", "plain", "counts"):
         (room / name).unlink()
     # In a script a connection ends only by a bye. The connections of the resumed class have the same numbers.
@@ -254,7 +268,7 @@ def begun_by(first: Class, room: Path, library: Preloaded) -> Begun:
 
 
 def classes(library: Preloaded, room: Path) -> str:
-    """Refuses memory to the commands `host` and `resume`. Returns the lines about them."""
+    """Refuses memory to the commands `host` and `resume`. Returns a text with the number of refusals in each."""
     lab = lab_of(room, 4)
     hosted = Class("host", lab, ASKED, Begun(None, ()))
     again = Class("resume", lab, ASKED_LATER, begun_by(hosted, room / "begun", library))

@@ -15,7 +15,8 @@ SAID = [
 
 
 def play(story: Story, host: Host) -> None:
-    """Sends the lines of a story to a host, each on its connection, the first one at the desk."""
+    """Sends the lines of a story to a host, each on the connection with its number. The first connection is at the
+    desk. Fails if a line gets no reply."""
     callers = dict[bytes, Caller]()
     for line in story.lines:
         number, asked = line.split(b" ", 1)
@@ -47,14 +48,15 @@ def host_uses(room: Path) -> dict[str, Use]:
 
 
 def answered(story: Story) -> Use:
-    """Returns the use of a script that the program answers line by line."""
-    def use(variables: dict[str, str]) -> Tried:
-        """Runs the script with refusals. Returns its end, what is wrong, and the number of replies `memory`."""
+    """Returns the use of the command `answer`, which answers a script line by line."""
+    def run_script(variables: dict[str, str]) -> Tried:
+        """Runs the script while `variables` make the library refuse memory. Returns its end, what is wrong, and the
+        number of replies `memory`."""
         ended = run(["answer", str(story.lab)], story.script(), variables, HOST)
         replies = ended.out.splitlines(keepends=True)
         if ended == OUT_OF_MEMORY:
             return Tried(ended, "", 0)
-        fault = "another end" if ended.status or ended.error or len(replies) != len(story.lines) else story.expects(replies, frozenset())
+        fault = "another end" if ended.status or ended.error or len(replies) != len(story.lines) else story.fault_in(replies, frozenset())
         return Tried(ended, fault, memories(replies))
 
-    return use
+    return run_script

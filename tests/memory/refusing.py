@@ -29,7 +29,8 @@ def memories(replies: list[bytes]) -> int:
 
 
 def done_line(audited: bytes) -> bytes:
-    """Returns the expected last line of a server or a class, from the output of the audit of its journal."""
+    """Returns the expected last line of a server or a class, which has the numbers in the output of the audit of its
+    journal. `audited` is this output."""
     return b"done:" + audited.split(b":", 1)[1].rsplit(b",", 1)[0] + b"\n"
 
 
@@ -39,18 +40,19 @@ def whole(words: list[str], given: bytes = b"", program: Path = PROGRAM) -> Use:
     memory`."""
     wanted = good(words, given, program)
 
-    def use(variables: dict[str, str]) -> Tried:
-        """Runs the command with refusals. Returns its end and what is wrong."""
+    def run_command(variables: dict[str, str]) -> Tried:
+        """Runs the command while `variables` make the library refuse memory. Returns its end and what is wrong."""
         ended = run(words, given, variables, program)
         fault = "" if ended in (OUT_OF_MEMORY, Ended(0, wanted, b"")) else "another end than a plain run's"
         return Tried(ended, fault, 0)
 
-    return use
+    return run_command
 
 
 def refuse_all(name: str, use: Use, library: Preloaded) -> str:
     """Runs a use with each request for memory refused in turn, and then with all requests refused from each one on.
-    Fails if something is wrong with a run. Returns a line with the number of refusals."""
+    Fails if something is wrong with a run, or if no request was refused. Returns a text with `name` and the numbers of
+    refusals and of replies `memory`."""
     met, told = 0, 0
     # If one request is refused, it may be the reason for one reply `memory` at most.
     for variable, at_most in (("REFUSE", 1), ("REFUSE_FROM", MOST)):

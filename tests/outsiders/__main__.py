@@ -101,9 +101,9 @@ def asks_after_the_bye(room: Path) -> None:
     audit(lab, journal, 1)
 
 
-def few(room: Path) -> None:
-    """If the system lets a host open too few files or start too few threads, the host prints an error, ends, and makes
-    no file. So does `resume`."""
+def too_few_files_or_threads(room: Path) -> None:
+    """If a host may open too few files or start too few threads, it prints an error, ends, and makes no file. The same
+    holds for the command `resume`."""
     lab, folder, program = lab_of(room, 4), room / "made", room / "host"
     folder.mkdir()
     program.write_bytes(HOST.read_bytes())
@@ -197,8 +197,8 @@ def three_hellos(room: Path) -> None:
 
 
 def comes(port: int, line: bytes, taken: list[float]) -> Caller:
-    """Connects to a port with this hello, and again if there is no seat. Appends the seconds that it took to `taken`,
-    and returns the connection."""
+    """Connects to a port with the hello `line`, and again as long as there is no seat. Appends the seconds that it took
+    to `taken`, and returns the connection. Fails if another reply comes, or after a time limit."""
     begun = time.monotonic()
     while True:
         caller = Caller(port)
@@ -230,7 +230,8 @@ def waits_little(taken: list[float], quiet: float, most: float = 2.0) -> None:
 
 
 def repeating(stop: threading.Event, act: Callable[[], None]) -> list[threading.Thread]:
-    """Starts a thread that calls a function again and again until `stop` is set. Returns a list with this thread."""
+    """Starts a thread that calls a function again and again until `stop` is set. Returns a list with this thread, by
+    which callers can extend their lists of threads."""
     def work() -> None:
         """Calls the function until `stop` is set. Waits a moment after each `OSError`."""
         while not stop.is_set():
@@ -332,14 +333,15 @@ def nobody_behind(room: Path) -> None:
 
 
 def guesses(host: Host, quiet: float) -> tuple[int, int, float]:
-    """Checks that honest clients at both ports are answered as soon as `waits_little` requires, with a limit of a tenth
-    of a second, while other clients guess keys. `quiet` is the time of a hello without outsiders. Five clients guess at
-    the students' port, then fifteen, and then fourteen also at the desk. Returns the number of denied guesses, the number
-    of connections on which no guess was denied, and the seconds."""
+    """Checks that hellos with a key are granted in time at both ports, while other clients guess keys. The median of
+    their times may be a tenth of a second plus 20 times `quiet`, the time of a hello without outsiders. Five clients
+    guess at the students' port, then fifteen, and then also fourteen at the desk. Returns the number of denied guesses,
+    the number of connections on which no guess was denied, and the seconds that all this took."""
     stop, denied, others = threading.Event(), [0] * 29, [0] * 29
 
     def guess(at: int) -> None:
-        """Sends ten wrong hellos on a connection to the port for the number `at`, and counts the replies."""
+        """Sends ten wrong hellos on a new connection of the client with the number `at`, and counts the denials. The
+        first fifteen clients connect to the students' port, and the others to the desk."""
         port = host.port if at < 15 else host.desk
         with socket.create_connection(("127.0.0.1", port), LIMIT) as it, it.makefile("rb") as replies:
             it.sendall(WRONG * 10)
@@ -360,6 +362,7 @@ def guesses(host: Host, quiet: float) -> tuple[int, int, float]:
                     fail(f"outsiders: {name} loses a seat to those who guess")
                 caller.close()
             waits_little(taken, quiet, 0.1)
+    # Denials are delayed, so it takes a while until there are as many as `guessed_keys` requires.
     while sum(denied) < 100 and time.monotonic() - begun < LIMIT:
         time.sleep(0.05)
     stop.set()
@@ -553,9 +556,9 @@ def limited(kilobytes: int, limit: str = "-s") -> list[str]:
     return ["bash", "-c", f'ulimit {limit} {kilobytes} && ulimit -v 65536 && exec "$@"', "bash"]
 
 
-def deepest(port: int, count: int) -> None:
-    """Sends lines whose values are nested as deep as allowed on `count` connections at once, and checks that they are
-    answered. Then sends deeper ones, and checks that they are refused."""
+def check_nesting(port: int, count: int) -> None:
+    """Sends, on each of `count` connections at once, lines whose values are nested as deep as allowed, and deeper ones.
+    Checks that the former are answered, and the latter are refused."""
     # The request is an object itself, so 126 levels in it are as deep as allowed.
     arrays, objects = b"[" * 126 + b"]" * 126, b'{"a":' * 126 + b"0" + b"}" * 126
     deep = [look("ana").replace(b"}", b',"x":%s}' % nest) for nest in (arrays, objects, arrays.replace(b"[]", b"[[]]"), b"[" * 4000)]
@@ -576,12 +579,12 @@ def small_stacks(room: Path) -> None:
     lab = lab_of(room, 16)
     with Host(lab, 0, 0, before=limited(256)) as host:
         teacher = let_in(host.desk, hello("tess"))[0]
-        deepest(host.port, 15)
+        check_nesting(host.port, 15)
         ends(host, teacher)
     server = Server(lambda port: ["serve", str(lab), str(port), "16"], {}, limited(256))
     if not server.listens:
         fail(f"outsiders: over small stacks a server ends with {server.end()}")
-    deepest(server.port, 16)
+    check_nesting(server.port, 16)
     if server.end() != NO_EVENTS:
         fail(f"outsiders: over small stacks a server ends with {server.end()}")
     script = room / "script"
@@ -594,7 +597,7 @@ def small_stacks(room: Path) -> None:
 
 TESTS: list[Test] = [
     never_reads, a_line_has_ten_minutes, silent_ones, guessed_keys, refused_threads, comes_again, one_of_many, a_third, nobody_behind, journals,
-    limits_of_files, few, small_stacks,
+    limits_of_files, too_few_files_or_threads, small_stacks,
     three_hellos, a_web_form, words_at_the_end, asks_after_the_bye,
     *byes.TESTS, *contested.TESTS, *crowded.TESTS, *segments.TESTS, *strangers.TESTS, *parting.TESTS, *edges.TESTS,
 ]

@@ -195,8 +195,9 @@ class Class:
 
 
 def check_waits(waits: Waits, quiet: Waits) -> None:
-    """Checks that of each kind of waiting times at most a tenth are longer than WAIT plus SLOWER times the longest one
-    in `quiet`, the times without outsiders. So the limit is higher on a slow machine."""
+    """Checks each kind of waiting times in `waits`, of which at most a tenth may be longer than a limit. The limit is
+    WAIT plus SLOWER times the longest time of this kind in `quiet`, the times without outsiders. So it is higher on a
+    slow machine."""
     for of, found in vars(waits).items():
         most = WAIT + SLOWER * max(vars(quiet)[of])
         late = sum(each > most for each in found)
@@ -205,7 +206,8 @@ def check_waits(waits: Waits, quiet: Waits) -> None:
 
 
 def work(room: Path) -> str:
-    """Runs a class alone for a moment, and then beside the outsiders to its end. Returns a line about it."""
+    """Runs a class alone for a moment, and then beside the outsiders until it is stable. Fails if the class doesn't end
+    well, if its journal isn't legal, or if honest clients wait too long. Returns a line about the class."""
     seconds = float(sys.argv[1]) if sys.argv[1:] else SECONDS
     lab, journal = lab_of_bots(room), room / "journal"
     with Host(lab, 0, 0, journal) as host:

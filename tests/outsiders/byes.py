@@ -43,20 +43,21 @@ class Asker:
     """A student who sends requests without a pause until they aren't answered any more."""
 
     def __init__(self, port: int) -> None:
-        """Connects to a port, and greets as a student."""
+        """Connects to a port, greets as the student ben, and starts the thread that sends the requests."""
         self.caller, _ = let_in(port, hello("ben"))
         self.said: list[tuple[float, bytes]] = []  # when each line was sent, and its reply
         self.thread = threading.Thread(target=self.ask, daemon=True)
         self.thread.start()
 
     def ask(self) -> None:
-        """Sends requests until the connection ends."""
+        """Sends requests until the reply is `over` or the connection has ended. Notes each reply in `said`."""
         while not self.said or self.said[-1][1] not in (OVER, b""):
             begun = time.monotonic()
             self.said.append((begun, self.caller.ask(look("ben"))))
 
     def after(self, moment: float) -> list[bytes]:
-        """Returns the replies to those lines that were sent after a moment."""
+        """Waits until no request is answered any more, and closes the connection. Returns the replies to those requests
+        that were sent after the time `moment`. Fails if the last request isn't answered within a time limit."""
         self.thread.join(SOON)
         if self.thread.is_alive():
             fail("outsiders: after the bye a student is neither answered nor hung up on")
@@ -64,10 +65,11 @@ class Asker:
         return [reply for begun, reply in self.said if begun > moment]
 
 
-def ends_all(lab: Path, piece: Piece, parts: list[bytes], variables: Mapping[str, str], how: str, stays: bool = False) -> None:
+def check_bye(lab: Path, piece: Piece, parts: list[bytes], variables: Mapping[str, str], how: str, stays: bool = False) -> None:
     """Sends the lines of `piece` to a host in these parts. Checks that after the reply to the bye only `over` is sent,
     and that the host ends by itself. The teacher's connection stays open until the students are answered or, if `stays`
-    is set, until the host has ended. `how` describes the parts, for the error."""
+    is set, until the host has ended. `variables` are added to the host's environment, and `how` describes the parts,
+    for the error."""
     with Host(lab, 0, 0, variables=variables) as host:
         ana, _ = let_in(host.port, hello("ana"))
         if b'"place":1' not in ana.ask(seduction(0)):
@@ -105,10 +107,10 @@ def byes_in_parts(room: Path) -> None:
     cut at each byte."""
     lab = lab_of(room, 5)
     for piece in PIECES:
-        ends_all(lab, piece, [piece.whole], {}, "in one piece", True)
+        check_bye(lab, piece, [piece.whole], {}, "in one piece", True)
     cuts = [(piece, at) for piece in PIECES for at in range(1, len(piece.whole))]
     with ThreadPoolExecutor(SIDE_BY_SIDE) as pool:
-        for _ in pool.map(lambda cut: ends_all(lab, cut[0], [cut[0].whole[:cut[1]], cut[0].whole[cut[1]:]], {}, f"cut at byte {cut[1]}"), cuts):
+        for _ in pool.map(lambda cut: check_bye(lab, cut[0], [cut[0].whole[:cut[1]], cut[0].whole[cut[1]:]], {}, f"cut at byte {cut[1]}"), cuts):
             pass
 
 
@@ -117,12 +119,12 @@ def byes_written_in_parts(room: Path) -> None:
     at each byte, or byte by byte."""
     lab, library = lab_of(room, 5), Preloaded("outsiders/cut.c", room, "CUT_COUNTS")
     for piece in PIECES:
-        ends_all(lab, piece, [piece.whole], cut_at(library, 0, False), "in one piece")
+        check_bye(lab, piece, [piece.whole], cut_at(library, 0, False), "in one piece")
         size = library.counts()[0]  # the bytes of the replies, which the host has written at once
-        # Of long replies the bytes around the bye's own are enough.
+        # Long replies are only cut in the bytes of the reply to the bye, and just before them.
         first = 1 if size < SHORT else size - len(BID) - 3
         for at, is_each in [(1, True), *((at, False) for at in range(first, size))]:
-            ends_all(lab, piece, [piece.whole], cut_at(library, at, is_each), f"whose reply is cut at byte {at}")
+            check_bye(lab, piece, [piece.whole], cut_at(library, at, is_each), f"whose reply is cut at byte {at}")
             if library.counts()[1] < 1:
                 fail(f"outsiders: the reply to {piece.name} and a bye isn't cut at byte {at}")
 

@@ -1,4 +1,5 @@
-"""Clients come and go at a class's host and at its page, by hand for an hour.
+"""Clients come and go at a class's host and at its page. This is run by hand, for an hour unless SECONDS says
+otherwise.
 
     python3 -m tests.outsiders.churn [SECONDS]
 
@@ -69,7 +70,8 @@ class Class:
     """A running class with its page."""
 
     def __init__(self, room: Path) -> None:
-        """Starts the class in the folder `room`."""
+        """Starts the class in the folder `room`. Waits until its server listens and the address of its page is
+        known."""
         lab, runs = lab_of(room, 16, 100_000), room / "runs"
         words: list[str | Path] = ["run", lab, "--into", runs, "--port", "20000", "--page", "25000", "--typed"]
         self.process = subprocess.Popen(
@@ -81,6 +83,7 @@ class Class:
         wait_until(lambda: [*runs.glob(f"*/{RECORD}")] and self.address())
         record = Record.read(next(runs.glob("*")))
         assert record is not None
+        # The number of the host's process, and its two ports.
         self.host, self.port, self.desk = record.server.number, record.port, record.desk
 
     def address(self) -> tuple[str, ...]:
@@ -202,10 +205,10 @@ class Comings:
             time.sleep(PAUSE)
 
 
-def comes_to_rest(of: Callable[[], Held], first: Held | None) -> Held:
-    """Returns what a process has once its clients have left. If `first` is given, waits until the process has the same
-    again, thirty seconds at most. Otherwise waits fifteen seconds, and then until the number of threads is the same
-    twice."""
+def held_at_rest(of: Callable[[], Held], first: Held | None) -> Held:
+    """Returns what a process has once its clients have left. `of` returns what it has at a moment. If `first` is given,
+    waits until the process has the same again, thirty seconds at most. Otherwise waits fifteen seconds, and then until
+    `of` returns the same number of threads twice in a row."""
     end = time.monotonic() + 30
     while True:
         time.sleep(1)
@@ -224,15 +227,15 @@ def churn(room: Path, seconds: float) -> None:
     first: tuple[Held, Held] | None = None
     end, seed = time.monotonic() + seconds, 0
     while time.monotonic() < end:
-        it.type("shake 1" if seed % 3 else "report")
+        it.type("shake 1" if seed % 3 else "report")  # The teacher acts too.
         until = min(end, time.monotonic() + ROUND)
         clients = [threading.Thread(target=comings.act_until, args=[until, seed * COMING + at]) for at in range(COMING)]
         for client in clients:
             client.start()
         for client in clients:
             client.join()
-        host = comes_to_rest(lambda: Held.of(it.host), first[0] if first else None)
-        page = comes_to_rest(lambda: Held.of(it.process.pid), first[1] if first else None)
+        host = held_at_rest(lambda: Held.of(it.host), first[0] if first else None)
+        page = held_at_rest(lambda: Held.of(it.process.pid), first[1] if first else None)
         first = first or (host, page)
         seed += 1
         print(f"{seed}: {comings.count} clients; host {host}; class {page}", flush=True)

@@ -1,5 +1,5 @@
-"""The last seats of a port whose other seats have students after their hello. A *stranger* is a connection whose hello
-isn't granted yet. It has to leave its seat if a newcomer needs it."""
+"""Tests of the last free seats of a port. All other seats have students after their hello. A *stranger* is a connection
+whose hello isn't granted yet. It has to leave its seat if a newcomer needs it."""
 import select
 import time
 from pathlib import Path
@@ -13,12 +13,13 @@ from tests.outsiders.load import Outsiders
 from tests.outsiders.parting import end_well, slowed, wait_until_accepted
 
 OWN = 4  # the number of seats that a name keeps
-SEATS = OWN * len(NODES) + 1  # the number of the students' seats that are taken, so that one is left
+SEATS = OWN * len(NODES) + 1  # the number of the students' seats: those that the names keep, and one more
 SEATED = 0.5  # seconds that a stranger may need to get that seat
 
 
-def students(host: Host) -> list[tuple[str, Caller]]:
-    """Returns the connections of students after their hello, each with its name, on all seats but one."""
+def seat_students(host: Host) -> list[tuple[str, Caller]]:
+    """Connects OWN times as each student, which takes all seats of the students' port except one. Returns the
+    connections after their hellos, each with the student's name."""
     return [(name, let_in(host.port, hello(name))[0]) for name in NODES for _ in range(OWN)]
 
 
@@ -31,10 +32,11 @@ def ends_with_all_seated(host: Host, seated: list[tuple[str, Caller]]) -> None:
 
 
 def the_last_seat(room: Path) -> None:
-    """A stranger on the last free seat has to leave for a client with a key, although strangers have less than a
-    third of the seats. The client is the teacher, who may say hello at the students' port too."""
+    """A stranger on the last free seat has to leave if a client with a key comes. This holds although strangers have
+    less than a third of the seats, which they may keep while other seats are free. The client with a key is the
+    teacher, who may say hello at the students' port too."""
     with Host(lab_of(room, SEATS + 1), 0, 0) as host:
-        seated = students(host)
+        seated = seat_students(host)
         for line in (b"", b'{"do":"hel', b"{}\n", WRONG):
             stranger = Caller(host.port)
             stranger.send(line)
@@ -55,7 +57,7 @@ def the_last_seat(room: Path) -> None:
 
 def a_hello_first(room: Path) -> None:
     """If several clients wait for a seat, one that has sent a hello gets it, although another one came before it and
-    has sent another line."""
+    has sent another line. The host's clock is slowed down, so that neither is answered `busy` meanwhile."""
     with Host(lab_of(room, 3), 0, 0, variables=slowed(room)) as host:
         teacher = let_in(host.desk, hello("tess"))[0]
         ana, ben = (let_in(host.port, hello(name))[0] for name in ("ana", "ben"))
@@ -81,7 +83,7 @@ def a_flooded_seat(room: Path) -> None:
     """A client with a key, here the teacher, gets the last seat in time, although a thousand outsiders come each
     second."""
     with Host(lab_of(room, SEATS + 1), 0, 0) as host:
-        seated = students(host)
+        seated = seat_students(host)
         quiet = max(greeted_within(host.port, "tess", SETTLED) for _ in range(HELLOS))
         with Outsiders("all", RATE, [host.port]):
             nine_in_ten(host.port, "tess", SLOWER * WAIT + AGAIN * quiet, "mixed")

@@ -20,8 +20,8 @@ NAMED = 150  # the number of other clients a second, so that more than sixteen c
 
 
 def reply_to(port: int, line: bytes, seconds: float) -> bytes:
-    """Connects to a port, sends a line, and closes after the reply. Returns the reply, or no bytes if there is none in
-    that time."""
+    """Connects to a port, sends a line, and closes after the reply. Returns the reply, or no bytes if there is none
+    within `seconds` seconds or the connection fails."""
     try:
         with socket.create_connection(("127.0.0.1", port), seconds) as it, it.makefile("rb") as replies:
             it.sendall(line)
@@ -31,8 +31,9 @@ def reply_to(port: int, line: bytes, seconds: float) -> bytes:
 
 
 def greeted_within(port: int, name: str, most: float) -> float:
-    """Connects to a port with the hello of a student, again and again if it is turned away. Returns the seconds that it
-    took, or infinity if they are more than `most`."""
+    """Connects to a port with the hello of the person `name`, and again as long as the reply is `busy` or is missing.
+    Returns the seconds until the hello is granted, or infinity if they are more than `most`. Fails if another reply
+    comes."""
     begun = time.monotonic()
     while (left := begun + most - time.monotonic()) > 0:
         said = reply_to(port, hello(name), left)
@@ -56,8 +57,9 @@ def nine_in_ten(port: int, name: str, most: float, beside: str) -> None:
 
 
 def check_flood(kind: str, room: Path) -> None:
-    """Lets outsiders of a kind come to the students' port, and then to the desk. Checks that beside them nine of ten
-    hellos with a key are granted in time. The limit depends on the time that a hello takes without outsiders."""
+    """Lets outsiders of a kind (a key of `load.PIECES`) come to the students' port, and then to the desk. Checks that
+    beside them nine of ten hellos with a key are granted in time. The limit depends on the time that a hello takes
+    without outsiders."""
     with Host(lab_of(room, 16), 0, 0) as host:
         for port, name in ((host.port, "ana"), (host.desk, "tess")):
             quiet = max(greeted_within(port, name, SETTLED) for _ in range(HELLOS))

@@ -24,8 +24,9 @@ def padded(line: bytes, size: int) -> bytes:
 
 
 def longest_lines(room: Path) -> None:
-    """A line of 4,096 bytes is answered, as first or later line, in one or two pieces. Such a line gets no error for
-    its length when the connection ends later. A line of one byte more is too long."""
+    """A line of 4,096 bytes is answered, as the first line or a later one, sent in one or two pieces. A line of one
+    byte more is too long. At the class's end, the client that has sent lines of 4,096 bytes gets only the line
+    `over`."""
     with Host(lab_of(room, 4), 0, 0) as host:
         longest, longer = padded(look("ana"), MOST), padded(look("ana"), MOST + 1)
         ana, reply = let_in(host.port, padded(hello("ana"), MOST))
@@ -78,9 +79,10 @@ def told_guesses(room: Path) -> None:
             fail(f"outsiders: after {made} guesses a host ends with {ended}")
 
 
-def waits_between(host: Host, library: Preloaded, pause: float, when: str) -> None:
-    """Checks that a host calls few failing accepts, because it waits `pause` seconds between two of them. `when` names
-    the situation, for the error."""
+def check_tries(host: Host, library: Preloaded, pause: float, when: str) -> None:
+    """Checks that a host waits about `pause` seconds after each `accept` that fails. For this it counts, with
+    `library`, the calls of `accept` in some seconds. Twice as many calls as expected are allowed, and 20 more. `when`
+    names the situation, for the error."""
     begun, before = time.monotonic(), library.counts()[0]
     time.sleep(SECONDS)
     tries, seconds = library.counts()[0] - before, time.monotonic() - begun
@@ -89,15 +91,15 @@ def waits_between(host: Host, library: Preloaded, pause: float, when: str) -> No
 
 
 def no_busy_loop(room: Path) -> None:
-    """If no connection can be accepted, the host waits before it tries again, also while a client waits for a
-    seat."""
-    library = Preloaded("faults/fail.c", room, "FAIL_COUNTS")
+    """If no connection can be accepted, the host waits before it tries again. In the first case it can open no further
+    file. In the second case its port is full, and a client waits for a seat."""
+    library = Preloaded("faults/fail.c", room, "FAIL_COUNTS")  # Without FAIL_AT it only counts the calls of `accept`.
     with Host(lab_of(room, 2), 0, 0, variables=library.variables({"FAIL": "accept"})) as host:
         teacher, ana = let_in(host.desk, hello("tess"))[0], let_in(host.port, hello("ana"))[0]
         # From here on the host can open no further file.
         resource.prlimit(host.process.pid, resource.RLIMIT_NOFILE, (host.files(), 4096))
         kept = [connect(host.port) for _ in range(3)]
-        waits_between(host, library, PAUSE, "with no descriptor left")
+        check_tries(host, library, PAUSE, "with no descriptor left")
         resource.prlimit(host.process.pid, resource.RLIMIT_NOFILE, (4096, 4096))
         if any(caller.line() != BUSY for caller in kept):
             fail("outsiders: who came while there was no descriptor doesn't read that there is no seat")

@@ -66,7 +66,7 @@ class Load:
                 self.come(now)
                 due += 1 / rate
             for key, _ in self.selector.select(max(0.0, min(due - time.monotonic(), 0.05))):
-                self.turn(key.data)
+                self.act_for(key.data)
             while self.there and (self.there[0].since < now - STAY or len(self.there) > MOST):
                 self.close(self.there.popleft())
         for each in self.there:
@@ -92,7 +92,7 @@ class Load:
         self.there.append(outsider)
         self.selector.register(it, selectors.EVENT_WRITE, outsider)
 
-    def turn(self, outsider: Outsider) -> None:
+    def act_for(self, outsider: Outsider) -> None:
         """Acts for an outsider whose connection is open now: sends its piece, or closes the connection if it closes at
         once."""
         self.selector.unregister(outsider.socket)
@@ -105,7 +105,7 @@ class Load:
             self.counts["cut off"] += 1
 
     def close(self, outsider: Outsider) -> None:
-        """Closes a connection unless it is closed."""
+        """Closes the connection of an outsider unless it is closed already."""
         if outsider.socket.fileno() >= 0:
             if outsider.socket in self.selector.get_map():
                 self.selector.unregister(outsider.socket)

@@ -30,7 +30,7 @@ def wait_until_accepted(host: Host, files: int, more: int) -> None:
 
 
 def end_well(host: Host, teacher: Caller) -> None:
-    """Checks that the teacher's bye ends a host well."""
+    """Checks that the teacher's bye ends a host with status 0, no event and no error."""
     if (found := host.dismiss(teacher)) != NO_EVENTS:
         fail(f"outsiders: with a slow clock a host ends with {found}")
 

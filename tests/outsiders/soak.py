@@ -3,11 +3,11 @@
     python3 -B -m tests.outsiders.soak class [SECONDS [RATE]]
     python3 -B -m tests.outsiders.soak host [SECONDS [RATE]]
 
-Two outsiders each make RATE connections a second (1,000 without a number) at both ports, of all kinds. `class` has
-fifteen bots under three daemons, one after the other, ten minutes in all: twelve bots of `examples/bot.py`, and three
-that connect and disconnect. All play to the end, and the output has the times that these three wait for a seat and for
-a reply. `host` prints, each minute for an hour, the number of a host's threads and descriptors and its memory. At the
-end these are as at the beginning.
+Two outsiders (clients without a key) each make RATE connections a second (1,000 without a number) at both ports, of all
+kinds. `class` has fifteen bots under three daemons, which decide when steps are closed. The daemons take turns, for ten
+minutes in all. Twelve of the bots are those of `examples/bot.py`, and three connect and disconnect. All play to the
+end, and the output has the times that these three wait for a seat and for a reply. `host` prints, each minute for an
+hour, the number of a host's threads and descriptors and its memory. At the end these are as at the beginning.
 """
 from __future__ import annotations
 
@@ -54,7 +54,7 @@ class Waits:
 
 
 def waits_line(name: str, found: list[float]) -> str:
-    """Returns the line about the waiting times `found` for what `name` says."""
+    """Returns a line about the waiting times `found`. `name` names what was waited for, such as `seats`."""
     each = sorted(found)
     if not each:
         return f"no waits for {name}"
@@ -135,8 +135,8 @@ class Class:
                 me.hang_up()
 
     def greet(self, node: int) -> Client:
-        """Connects as the student of a node, again and again until a seat is free. Returns the connection. Raises
-        `Over` if the class has ended."""
+        """Connects as the student of a node, again and again until a seat is free. Appends the seconds that this took
+        to the waiting times. Returns the connection. Raises `Over` if the class has ended."""
         begun = time.monotonic()
         while True:
             try:

@@ -17,8 +17,9 @@ FAULTS = 5000  # the limit of events of a lab that reaches it
 
 
 def scripts(room: Path) -> list[tuple[Path, Path]]:
-    """Returns each script beside which its expected output is kept, with its lab. The lab is the file with the script's
-    name without `-run`, or the built-in lab if there is no such file."""
+    """Returns the paths of all scripts in the folders `examples` and `tests/scripts`, each with the path of its lab.
+    The lab is the file with the script's name without `-run`, or the built-in lab if there is no such file. The
+    expected output of a script is the file beside it with the ending `.out`."""
     plain = built_in(room)
     found = []
     for script in sorted([*(TOP / "examples").glob("*.script"), *(TOP / "tests/scripts").glob("*.script")]):
@@ -28,8 +29,8 @@ def scripts(room: Path) -> list[tuple[Path, Path]]:
 
 
 def line_by_line(room: Path) -> int:
-    """Checks that each reply comes before the next line is sent, and that all replies are those in the script's
-    output. Returns the number of lines."""
+    """Runs all scripts, and checks that each reply comes before the next line is sent. Also checks that the replies are
+    those in the script's expected output. Returns the number of lines."""
     lines = 0
     for script, lab in scripts(room):
         wanted = script.with_suffix(".out").read_bytes().splitlines(keepends=True)
@@ -65,9 +66,9 @@ def answer_script(words: list[str], given: bytes) -> Ended:
     return Ended(done.returncode, done.stdout, done.stderr)
 
 
-def ends(room: Path) -> int:
-    """Checks scripts with wrong lines, labs that can't be read, a full disk, and the last event. Returns the
-    number of calls."""
+def check_ends(room: Path) -> int:
+    """Checks how `answer` ends after a wrong line, with arguments or a lab that it can't use, and on a full disk. Also
+    checks that an event beyond the lab's limit is refused. Returns the number of calls."""
     lab = str(built_in(room))
     for script, out, line in ROWS:  # `line` is the number of the script's wrong line, or None
         wanted = Ended(2 if line else 0, out.encode(), f"script: line {line}: bad line\n".encode() if line else b"")
@@ -100,7 +101,7 @@ def ends(room: Path) -> int:
 
 def work(room: Path) -> str:
     """Checks replies that are read line by line, and the ends of scripts. Returns a line with the number of both."""
-    return f"answering: {line_by_line(room)} lines as they came, {ends(room)} ends as wanted"
+    return f"answering: {line_by_line(room)} lines as they came, {check_ends(room)} ends as wanted"
 
 
 if __name__ == "__main__":

@@ -87,7 +87,7 @@ class Auditor:
         if found != said(line):
             fail(f"an audit of {journal!r} says {found}, not {line!r}")
 
-    def all_of(self, rows: list[tuple[str, str]]) -> None:
+    def check_rows(self, rows: list[tuple[str, str]]) -> None:
         """Checks all rows, each a journal and the line of its audit."""
         for text, line in rows:
             self.wants(text.encode(), line)
@@ -136,9 +136,9 @@ def work(room: Path) -> str:
     lab, cycle = built_in(room), room / "cycle.toml"
     cycle.write_text(CYCLE, encoding="ascii")
     auditor, shared, resumed = Auditor(room, lab), Auditor(room, shared_lab(room, lab)), Auditor(room, cycle)
-    auditor.all_of(ROWS)
-    shared.all_of(SHARED)
-    resumed.all_of(RESUMED)
+    auditor.check_rows(ROWS)
+    shared.check_rows(SHARED)
+    resumed.check_rows(RESUMED)
     prefixes(auditor)
     replaced(auditor)
     return f"{auditor.calls + shared.calls + resumed.calls} audits of right, torn and hurt journals say what is wanted"

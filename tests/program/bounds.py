@@ -37,8 +37,8 @@ def marriage(partner: int) -> dict[str, object]:
 
 
 def lab(room: Path, links: list[tuple[int, int]], nodes: list[tuple[int, int | None]]) -> Path:
-    """Writes a lab with these links, in which one student owns all nodes, each with its pointer, and m is true at each.
-    Returns its path."""
+    """Writes a lab with these links, in which one student owns all nodes. `nodes` has each node with its pointer, the
+    register p. The register m is true at each node. Returns the lab's path."""
     file = room / "bound.toml"
     listed = ", ".join(f"[{low}, {high}]" for low, high in links)
     rows = (f'{{ id = {node}, owner = "ana", m = true{"" if p is None else f", p = {p}"} }}' for node, p in nodes)
@@ -139,7 +139,7 @@ def play_and_count(file: Path, steps: list[Step]) -> Counted:
     return Counted(found.moves, found.rounds, int(bounds[1]), int(bounds[2]), reports)
 
 
-def moves(room: Path, size: int) -> int:
+def check_most_moves(room: Path, size: int) -> int:
     """Checks a run on the network in which two nodes are linked if their sum is more than `size`, the number of nodes.
     At the beginning each m is true, but no two nodes point at each other. So each node first applies Update and
     Abandonment, one node after another, and then come the steps of `phases`. The run has as many moves as the bound, or
@@ -156,7 +156,7 @@ def moves(room: Path, size: int) -> int:
     return found.moves
 
 
-def rounds(room: Path, size: int) -> int:
+def check_most_rounds(room: Path, size: int) -> int:
     """Checks a run on the network in which a node of the lower half and one of the upper half are linked if their sum
     is more than `size`, the number of nodes. First all nodes apply Update, and then come the steps of `phases`. In each
     step all privileged nodes move. The run has as many rounds as the bound. Returns their number."""
@@ -175,5 +175,5 @@ def rounds(room: Path, size: int) -> int:
 
 def work(room: Path) -> str:
     """Checks the runs with the most moves and the most rounds, for each size. Returns a line with their sums."""
-    counts = sum(moves(room, size) for size in MOVES), sum(rounds(room, size) for size in ROUNDS)
+    counts = sum(check_most_moves(room, size) for size in MOVES), sum(check_most_rounds(room, size) for size in ROUNDS)
     return f"bounds: {counts[0]} moves and {counts[1]} rounds, as many as the laws say"

@@ -60,9 +60,9 @@ class Player:
         return replies[-1]
 
     def moves(self, rng: Random, first: int) -> None:
-        """Sends TURNS times three requests at once: a move, a request to see a random node, and a look at one of its
-        nodes. The move is the one that the look before it showed as enabled, or one that is denied. `first` is the
-        lowest of its nodes."""
+        """Sends TURNS times three requests at once: a move, a request to see a random node, and a look at one of the
+        student's own nodes. The move is the one that the look before it showed as enabled, or one that is denied.
+        `first` is the lowest of the student's nodes."""
         half = NODES // 2
         move = line_of(do="see", node=0)  # Before the first look there is no move to ask for.
         for _ in range(TURNS):
@@ -94,7 +94,7 @@ class Replay:
         self.lab = lab
         _, self.events = audit(lab, journal)
         self.world = lab.opening()
-        self.known: str | None = None
+        self.known: str | None = None  # the name that has greeted on the client's connection
 
     def step(self) -> bool:
         """Applies the next event. Returns whether there is one."""
@@ -104,8 +104,8 @@ class Replay:
         return True
 
     def gives(self, line: bytes, reply: bytes) -> bool:
-        """Returns whether the model gives this reply to a line after the present prefix. If the line is granted an
-        event, this has to be the journal's next one, and is applied."""
+        """Returns whether the model gives this reply to a line after the present prefix. If the line is granted as an
+        event, this has to be the journal's next event, and is applied."""
         found = answer(self.lab, self.world, self.known, line[:-1])
         if found.reply.encode() + b"\n" != reply:
             return False

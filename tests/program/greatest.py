@@ -33,8 +33,9 @@ def document() -> str:
 
 
 def report(has_suitors: bool) -> str:
-    """Returns the text of the expected report before the moves, or after them if `has_suitors` is set. Each link is
-    open, and its witness is its lower end, or the last node."""
+    """Returns the text of the expected report before the moves, or after them if `has_suitors` is set. No node is in a
+    pair, so each link is open. The report names a privileged node for each open link, its witness. The witness is the
+    link's lower end before the moves, and the last node after them."""
     links = [(a, b) for a in NODES for b in NODES if a < b]
     if has_suitors:
         opened = ",".join(f'[{a},{b},{LAST},"marriage"]' for a, b in links)
@@ -91,7 +92,8 @@ class Tale:
 
 def whole_tale() -> Tale:
     """Returns the lines of the whole run. First come the teacher's report, and the moves of all students but the last,
-    on all connections in turn. Then come the close, and looks at the nodes."""
+    on all connections in turn. Then come the close, a second report, requests to see nodes, and a look at the last
+    node."""
     tale = Tale()
     for has_moved in (False, True):
         tale.say(SESSIONS, TESS, WELCOME)
@@ -133,7 +135,8 @@ def check_script(room: Path, lab: Path) -> None:
 
 
 def check_server(lab: Path) -> None:
-    """Checks the replies of a server of the largest lab to the teacher's report, looks and faults."""
+    """Checks the replies of a server of the largest lab to the teacher's hello, a report, and three faults. Before each
+    fault the teacher sees the node, so that the registers that it has then are checked too."""
     server = Server(lambda port: ["serve", str(lab), str(port), "1"], {})
     teacher = Client(server.port)
     node, form = NODES[0], '{{"at":{0},"dropped":0,"node":{1},"ok":"fault","place":{0}}}'
@@ -151,7 +154,7 @@ def check_server(lab: Path) -> None:
 
 
 def check_greatest(room: Path) -> None:
-    """Checks the largest lab, a script over it, and a server of it."""
+    """Checks the size of the largest lab that the program prints, a script for this lab, and a server of it."""
     lab = room / "greatest.toml"
     lab.write_text(document(), encoding="ascii")
     if good(["check", str(lab)]) != b"ok: 256 nodes, 32640 links, 256 students\n":

@@ -64,12 +64,13 @@ class Limited:
         self.lab, self.script, self.journal = built_in(room), room / "limited.script", room / "limited.journal"
 
     def run(self, script: bytes, most: int) -> tuple[Ended, bytes]:
-        """Returns the end of a script whose journal's file has room for `most` bytes, and the journal."""
+        """Runs a script while the journal's file may have at most `most` bytes. Returns the program's status and
+        output, and the journal."""
         self.script.write_bytes(script)
         self.journal.unlink(missing_ok=True)
 
         def limit() -> None:
-            """Limits the size of files, and ignores the signal of that, so that a write fails instead."""
+            """Limits the size of files. Ignores SIGXFSZ, the signal at this limit, so that a write fails instead."""
             signal.signal(signal.SIGXFSZ, signal.SIG_IGN)
             resource.setrlimit(resource.RLIMIT_FSIZE, (most, most))
 

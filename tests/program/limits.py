@@ -43,7 +43,8 @@ def number_in(path: str, pattern: str) -> int:
 
 
 def of_clients_and_schemas() -> Iterator[Copy]:
-    """Yields the copies of limits in a student's client, in the door and in the schemas, which call no program."""
+    """Yields the copies of limits in the client that students copy, in the door, and in the schemas. None of these can
+    ask the program for its limits."""
     yield "classroom.client.MOST", client.MOST, MOST["line"]
     yield "classroom.client.GREETING", client.GREETING, MOST["greeting"]
     yield "classroom.client.NEXT_LINE", client.NEXT_LINE, MOST["next-line"]
@@ -54,8 +55,9 @@ def of_clients_and_schemas() -> Iterator[Copy]:
     yield "the greatest node in docs/replies.schema.json", number_in("docs/replies.schema.json", r'"maximum": (\d{3,})$'), MOST["identifier"]
 
 
-def of_the_model() -> Iterator[Copy]:
-    """Yields the copies of limits in the plain model, and in the same rules in another language."""
+def of_model_and_bench() -> Iterator[Copy]:
+    """Yields the copies of limits in the plain model and in `bench`, whose folder `typed` has the same rules in
+    Rust."""
     yield "model.lab.MOST_NODES", model_lab.MOST_NODES, MOST["nodes"]
     yield "model.lab.MOST_STUDENTS", model_lab.MOST_STUDENTS, MOST["students"]
     yield "model.lab.MOST_EVENTS", model_lab.MOST_EVENTS, MOST["events"]
@@ -73,8 +75,8 @@ def of_the_model() -> Iterator[Copy]:
 
 
 def check_what_has_to_fit() -> None:
-    """Fails if something that has to fit into a limit is larger: the scripts that `class` makes, and the tasks of the
-    service."""
+    """Fails if something that has to fit into a limit is larger: the scripts that `class` makes, or the threads and
+    processes (tasks) of the service."""
     for name, most in (("classroom.core.answering.MOST_SCRIPT", answering.MOST_SCRIPT), ("classroom.pages.replay.SCRIPT_LIMIT", replay.SCRIPT_LIMIT)):
         if most + MOST["line"] > MOST["lab"]:
             fail(f"{name} is {most}, and a script may have {MOST['lab']} bytes")
@@ -85,7 +87,8 @@ def check_what_has_to_fit() -> None:
 
 
 def check_launcher() -> None:
-    """Fails if the launcher, which reads limits from the program, has one of them as a number."""
+    """Fails if the launcher, the shell script `mml`, has a limit as a number. It has to ask the program for its
+    limits."""
     literals = set(map(int, re.findall(r"\b\d+\b", text_of("mml")))) & {most for most in MOST.values() if most >= LEAST_LITERAL}
     if literals:
         fail(f"mml has {sorted(literals)}, which are limits of the program")
@@ -100,7 +103,7 @@ def work(_room: Path) -> str:
     refused = run(["limits", "all"], b"", {}, HOST)
     if refused != Ended(1, b"", b"command line: not understood\n"):
         fail(f"limits all: {refused}")
-    copies = [*of_clients_and_schemas(), *of_the_model()]
+    copies = [*of_clients_and_schemas(), *of_model_and_bench()]
     for name, is_there, wanted in copies:
         if is_there != wanted:
             fail(f"{name} is {is_there}, and not {wanted}")

@@ -152,10 +152,10 @@ def refused(text: str) -> float:
 
 
 def levels(value: object) -> int:
-    """Returns how deep a value is nested, as `Members` reads it: objects are lists too. Raises an error for a string
-    with half a surrogate pair."""
+    """Returns how many levels of lists a value has. An object counts as a list, because it is read as `Members`. Raises
+    `ValueError` for a string with half a surrogate pair."""
     if isinstance(value, str):
-        value.encode()  # raises `UnicodeEncodeError` for half a surrogate pair
+        value.encode()  # raises `UnicodeEncodeError`, a `ValueError`, for half a surrogate pair
     return 1 + max(map(levels, value), default=0) if isinstance(value, list) else 0
 
 
@@ -169,14 +169,14 @@ class Members(list[object]):
 
 
 def as_python_reads(line: bytes) -> bytes:
-    """Returns a compact object with the plain members of a line, as Python's reader finds them. Returns a text
-    that isn't an object if the line isn't one."""
+    """Reads a line with Python's JSON reader. Returns a compact object with those of its members whose values are no
+    lists or objects. Returns `0` if the line isn't an object, or is nested deeper than the program allows."""
     try:
         value = json.loads(
             line.decode(), object_pairs_hook=Members, parse_float=number, parse_int=integer, parse_constant=refused
         )
         if not isinstance(value, Members) or levels(value) > 127:
-            return b"0"
+            return b"0"  # The program refuses this as malformed, as it refuses the line.
     except ValueError:
         return b"0"
     plain = {key: part for key, part in value.last.items() if part is None or isinstance(part, (bool, int, str))}
@@ -184,7 +184,7 @@ def as_python_reads(line: bytes) -> bytes:
 
 
 def play_lines(room: Path, lab: Path, lines: list[bytes]) -> tuple[bytes, bytes]:
-    """Runs a script of these lines, and returns its replies and its journal."""
+    """Runs a script of these lines, and returns its replies and its journal. Fails if the program doesn't end well."""
     script, journal = room / "lines.script", room / "lines.journal"
     script.write_bytes(b"".join(line + b"\n" for line in lines))
     found = run(["script", str(lab), str(script), str(journal)], b"", {})
@@ -194,8 +194,8 @@ def play_lines(room: Path, lab: Path, lines: list[bytes]) -> tuple[bytes, bytes]
 
 
 def each_way(room: Path, lab: Path) -> tuple[int, int]:
-    """Checks that random lines get the same replies in each spelling. Returns the number of requests and of
-    events."""
+    """Checks that random lines lead to the same replies and the same journal in each of three forms: as they are drawn,
+    and as `with_array` and `as_python_reads` change them. Returns the number of requests and of events."""
     rng = Random(5)
     requests = events = 0
     greetings = [b'1 {"do":"hello","key":"chalk","name":"tess"}', b'2 {"do":"hello","key":"a-key","name":"ana"}']

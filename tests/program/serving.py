@@ -37,7 +37,7 @@ def ends(server: Server, done: bytes) -> None:
 
 
 def opened(server: Server) -> socket.socket:
-    """Returns a connection to a server."""
+    """Opens a connection to a server, and returns it."""
     return socket.create_connection(("127.0.0.1", server.port), LIMIT)
 
 
@@ -64,7 +64,7 @@ def in_a_line(room: Path) -> None:
     ends(server, b"done: 1 events, configuration 0\n")
 
 
-def gone(room: Path) -> None:
+def gone_before_the_reply(room: Path) -> None:
     """If a client closes its connection before it reads the reply to its move, the move is still made. Another client
     is served to its end."""
     server = start_server(built_in(room), 2)
@@ -81,7 +81,7 @@ def gone(room: Path) -> None:
     ends(server, b"done: 2 events, configuration 1\n")
 
 
-def many(room: Path) -> None:
+def most_connections(room: Path) -> None:
     """As many connections as a server may have send the beginning of a line at the same time. When each of them sends
     the rest, it is answered correctly. All of them use the same name."""
     server = start_server(lab_of(room, "sessions = 4", f"sessions = {MOST['sessions']}"), MOST["sessions"])
@@ -125,7 +125,7 @@ def races(room: Path) -> None:
     names this one. If the teacher closes the step on two connections at the same time, one of them is granted."""
     journal = room / "raced.journal"
     lab = lab_of(room, 'owner = "ana"', 'owners = ["ana", "ben"]')
-    server = start_server(with_more_events(lab), 4, str(journal))
+    server = start_server(raise_event_limit(lab), 4, str(journal))
     clients = [Client(server.port) for _ in range(4)]
     for client, name in zip(clients, ("ana", "ben", "tess", "tess")):
         client.ask(hello(name))
@@ -148,8 +148,8 @@ def races(room: Path) -> None:
         fail("serving: another journal of races")
 
 
-def with_more_events(lab: Path) -> Path:
-    """Rewrites the file of a lab with a higher limit of events, and returns its path."""
+def raise_event_limit(lab: Path) -> Path:
+    """Replaces the limit of events in the file of a lab by a higher one. Returns the file's path."""
     lab.write_text(lab.read_text(encoding="utf-8").replace("events = 100\n", "events = 10000\n"), encoding="utf-8")
     return lab
 
@@ -157,7 +157,7 @@ def with_more_events(lab: Path) -> Path:
 def work(room: Path) -> str:
     """Checks servers with incomplete lines, clients that disappear, many connections, and requests at the same time.
     Returns a line with the number of races."""
-    for case in (in_a_line, gone, many, races):
+    for case in (in_a_line, gone_before_the_reply, most_connections, races):
         case(room)
     return f"servers of clients that meet, race and go away: 4, {2 * ROUNDS} races"
 

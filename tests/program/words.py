@@ -191,8 +191,8 @@ def writes(words: list[str], given: bytes) -> list[bytes]:
 
 
 def in_one_write(folder: Path) -> int:
-    """Checks that the replies to lines of one read are sent by one write, also before a bad line. A read has at
-    most 4096 bytes, which is 273 byes. Returns the number of calls."""
+    """Checks that the replies to lines of one read are sent by one write, also before a bad line. A read has at most
+    4096 bytes, so a script of byes is read 273 lines at a time. Returns the number of calls."""
     bye, left = b'1 {"do":"bye"}\n', b'1 {"ok":"bye"}\n'
     look, told = ((TOP / f"examples/first-look.{end}").read_bytes() for end in ("script", "out"))
     bad = bye + b'5 {"do":"bye"}\n'

@@ -3,8 +3,8 @@
     python3 -B -m tests.random [SEED|ends WORLDS]
 
 The replies, the journal, and the audits of that journal and of a journal with one byte changed are those of the model.
-So are the replies to a thousand events in large meshes, and the tables of `mml_tests_model`. Runs under four daemons
-end in a maximal matching, within the bounds on moves and rounds.
+So are the replies to a thousand events in large meshes, and the tables of `mml_tests_model`. A daemon chooses the nodes
+that move in each step. Runs under four daemons end in a maximal matching, within the bounds on moves and rounds.
 
 With a number, only the run of that seed is played, and its files are left in the working folder. With `ends`, only the
 runs under four daemons are played, in as many worlds as WORLDS says.
@@ -24,6 +24,7 @@ from tests.random.labs import drawn_lab
 from tests.random.meshes import mesh, mesh_script
 from tests.random.scripts import drawn_script
 
+USAGE = "usage: python3 -B -m tests.random [SEED|ends WORLDS]"
 SEEDS = range(1, 501)  # of the random labs with a random script
 LINES = 80  # of each of these scripts
 HURTS = 3  # the number of changed journals of a run that are audited
@@ -136,10 +137,18 @@ def work(room: Path) -> str:
     return f"{len(SEEDS)} drawn scripts, {audits} audits and {runs_to_an_end(room, WORLDS)}, as the model has them"
 
 
+def main(words: list[str]) -> None:
+    """Runs what the arguments `words` ask for. Exits with status 1, and prints how to write them, if they are wrong."""
+    match words:
+        case []:
+            in_room(work)
+        case ["ends", worlds] if worlds.isdecimal() and int(worlds) > 0:
+            in_room(lambda room: runs_to_an_end(room, range(1, int(worlds) + 1)))
+        case [seed] if seed.isdecimal():
+            compare(Path.cwd(), int(seed))
+        case _:
+            sys.exit(USAGE)
+
+
 if __name__ == "__main__":
-    if sys.argv[1:2] == ["ends"]:
-        in_room(lambda room: runs_to_an_end(room, range(1, int(sys.argv[2]) + 1)))
-    elif len(sys.argv) > 1:
-        compare(Path.cwd(), int(sys.argv[1]))
-    else:
-        in_room(work)
+    main(sys.argv[1:])

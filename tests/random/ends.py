@@ -1,4 +1,5 @@
-"""Runs with four daemons, from random worlds until no node is privileged."""
+"""Runs with four daemons, from random worlds until no node is privileged. A node is *privileged* if a rule can be
+applied at it. A *daemon* chooses which of the privileged nodes move in a step."""
 import json
 from collections.abc import Callable
 from dataclasses import dataclass
@@ -75,7 +76,8 @@ class Course:
     rounds: int
 
     def is_dense(self) -> bool:
-        """Returns whether the network has more links than the bound on moves counts."""
+        """Returns whether the network has more links than the bound on moves counts. The bound counts at most a quarter
+        of n² links, for a network of n nodes."""
         return self.links > self.nodes * self.nodes // 4
 
     def moves(self, replies: list[dict[str, Any]]) -> int:

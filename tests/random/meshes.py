@@ -1,5 +1,5 @@
-"""Runs of large meshes. The events of these runs are random and always granted, and the teacher asks for a report and
-looks after each."""
+"""Runs of large meshes. A *mesh* is a ring of nodes, in which each node is also linked to another one further on. The
+events of these runs are random and always granted. After each of them the teacher asks for a report and for looks."""
 import json
 from random import Random
 from typing import Any, Optional

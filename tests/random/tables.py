@@ -72,8 +72,9 @@ def drawn(numbers: Numbers, world: World, index: int) -> tuple[str, Request]:
 
 
 def refused_before(count: int) -> str:
-    """Returns a letter for each legal event on a cycle: how many illegal ones came before it, from `a` for none
-    to `z`."""
+    """Draws requests on a cycle of `count` nodes. Returns a letter for each legal one, which says how many illegal ones
+    came between it and the legal one before: `a` for none, and `z` for 25 or more. Fails if too few are legal, or if a
+    kind of event is missing."""
     lab = read_lab(cycle(count).encode())
     world, numbers = lab.opening(), Numbers(count)
     text, refused, words = "", 0, set[str]()
@@ -114,14 +115,15 @@ def event_of(lab: Lab, line: bytes) -> str:
 
 
 def rank(node: int) -> str:
-    """Returns the rank of a node of the built-in lab in Rust's debug form."""
+    """Returns the index of a node of the built-in lab, as a `Rank` in Rust's debug form."""
     return f"Rank {{ index: {node - 1} }}"
 
 
 def replaced() -> str:
-    """Returns each line of the journal, its event, and a sign for each replacement of each of its bytes. The sign is
-    `.` if the result isn't an event, and `?` if it isn't one of this lab. The sign is `=` for the same event, and `!`
-    with the event for another."""
+    """Returns a text with each line of the journal and its event. After them come, for each byte of REPLACEMENTS, the
+    signs of the lines in which this byte replaces one byte. The sign is `.` if such a line has no event, and `?` if it
+    has one that isn't of this lab. The sign is `=` for the same event. For another event it is `!`, and the other
+    events follow the signs."""
     lab = read_lab((TOP / "examples/built-in.toml").read_bytes())
     text = ""
     for line in (TOP / "examples/whole-run.journal").read_bytes().splitlines():
@@ -135,12 +137,12 @@ def replaced() -> str:
 
 
 def rows(text: str) -> str:
-    """Returns a text as the lines of a Rust constant."""
+    """Returns a text as lines of Rust source: string literals of ROW characters each, which `concat!` joins."""
     return "".join(f'    "{text[at : at + ROW]}",\n' for at in range(0, len(text), ROW))
 
 
 def kept(file: str, pattern: str) -> str:
-    """Returns the content of the stored table that a pattern finds in a file."""
+    """Returns the content of the stored table that a pattern with one group finds in a file. Fails if it finds none."""
     found = re.search(pattern, (TESTS / file).read_text(encoding="utf-8"), re.DOTALL)
     if found is None:
         fail(f"no table in {file}")
@@ -148,7 +150,7 @@ def kept(file: str, pattern: str) -> str:
 
 
 def compare() -> None:
-    """Checks each table against the model."""
+    """Fails if a stored table isn't the one that the model computes."""
     for count in CYCLES:
         pieces = re.findall(r'"(\w*)"', kept("drawn.rt", rf"const OF_{count}: &str = concat!\(([^)]*)\)"))
         if "".join(pieces) != refused_before(count):

@@ -7,6 +7,7 @@ session's end.
 """
 import resource
 import subprocess
+import sys
 from collections.abc import Sequence
 from pathlib import Path
 
@@ -229,9 +230,11 @@ def kept_and_held(room: Path) -> None:
 
 def run_classes(room: Path, words: Sequence[str] = ()) -> int:
     """Runs all tests of classes, or only those whose names contain one of `words`. `room` is a folder for their files.
-    Returns the number of tests."""
+    Returns the number of tests. Exits with status 1 if there is no such test."""
     tests = [kept_and_held, killed_and_resumed, torn_entries, full_disk, flooded, outsiders_first, *PLACES]
     chosen = [test for test in tests if not words or any(word in test.__name__ for word in words)]
+    if not chosen:
+        sys.exit(f"no test has {' or '.join(words)} in its name. The tests are: {', '.join(test.__name__ for test in tests)}")
     for test in chosen:
         test(room)
     return len(chosen)

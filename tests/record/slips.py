@@ -98,8 +98,8 @@ def replied(reply: bytes, is_granted: bool) -> Callable[[Drawn, Told], Iterator[
     """Returns a function for `KINDS`. It yields a record in which the refusal `reply` replaces the reply of an entry.
     It does so for granted events if `is_granted` is set, and otherwise for denials."""
     def hurts(drawn: Drawn, it: Told) -> Iterator[Hurt]:
-        """Yields the record in which the refusal replaces the reply of the entry `it`, if this entry is of the right
-        kind."""
+        """Yields the record in which the refusal replaces the reply of the entry `it`. Yields nothing if the
+        entry isn't a granted event or, if `is_granted` isn't set, a denial."""
         if it.found is not None and it.found.event is not None if is_granted else is_denied(it):
             yield changed(drawn, it, stamped(it.seat, it.entry.seen, it.entry.line, reply), OTHER_REPLY % it.entry.seen)
     return hurts

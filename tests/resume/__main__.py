@@ -31,6 +31,7 @@ FIRST = ONE + b"2 0 close\n"
 THIRD = b"3 1 grant ben 2 marriage 1"
 LONGEST = 101  # the most bytes after the last newline that `resume` takes for the beginning of a line
 PACE = 0.1  # seconds that the class in `slowness` took on the machine for which the times of kills were chosen
+TURNS = 200  # the most turns, each of three requests, in which a full disk has to halt the journal
 KILLS = 80  # the number of kills of hosts alone; tests/classroom/test_resume.py kills `run`, and both, ten times each
 
 
@@ -47,7 +48,8 @@ def read_resumed(host: Host) -> bytes:
 
 
 def place_of(line: bytes) -> int:
-    """Returns the place in a line that `read_resumed` has returned: the number of events that the class already has."""
+    """Returns the place in a line that `read_resumed` has returned: the number of events that the class already has.
+    Fails if the line names no place."""
     if not line.startswith(b"resumed at place "):
         fail(f"resume: another line after that on the ports: {line!r}")
     return int(line[17:line.index(b",")])
@@ -65,7 +67,7 @@ def check_refused(lab: Path, journal: Path, wanted: Ended, why: str, before: Seq
         fail(f"resume: {why}: the journal isn't as it was")
 
 
-def goes_on(lab: Path, journal: Path, line: bytes, error: bytes, why: str) -> None:
+def check_resumed(lab: Path, journal: Path, line: bytes, error: bytes, why: str) -> None:
     """Resumes a class from its journal, and ends it at once. Checks that the host's second line is `line`, that it prints
     `error` on standard error, and that its last line has the same place and configuration as `line`. `why` names the
     situation, for the error."""
@@ -165,7 +167,7 @@ def failed_sync(room: Path) -> None:
         fail(f"resume: where a sync fails: {said} and {ended}")
     if journal.read_bytes() != ONE:
         fail("resume: a line that wasn't synced isn't taken back")
-    goes_on(lab, journal, b"resumed at place 1, configuration 0, 1 chosen\n", b"", "after a sync that failed")
+    check_resumed(lab, journal, b"resumed at place 1, configuration 0, 1 chosen\n", b"", "after a sync that failed")
 
 
 def failed_sync_after_a_resume(room: Path) -> None:
@@ -184,7 +186,7 @@ def failed_sync_after_a_resume(room: Path) -> None:
             fail(f"resume: when the first sync after a resume fails: {line!r}, {said}, {library.counts()[1]} syncs")
         if (ended.status, ended.out) != (4, b"") or not ended.error.endswith(FAULT.error) or journal.read_bytes() != FIRST:
             fail(f"resume: when the first sync after a resume fails it ends with {ended}, and leaves {journal.read_bytes()!r}")
-    goes_on(lab, journal, b"resumed at place 2, configuration 1, 0 chosen\n", NO_COPY, "after a sync that failed after a resume")
+    check_resumed(lab, journal, b"resumed at place 2, configuration 1, 0 chosen\n", NO_COPY, "after a sync that failed after a resume")
 
 
 def folders_that_fail(room: Path) -> None:
@@ -200,18 +202,19 @@ def folders_that_fail(room: Path) -> None:
 
 def play_until_halted(ana: Caller, tess: Caller) -> int:
     """Repeats a move, its close and a fault, on the connections of ana and the teacher, until the journal is halted and
-    such a fault is refused. Returns the number of granted events."""
+    such a fault is refused. Returns the number of granted events. Fails if the journal isn't halted after TURNS
+    turns."""
     told = 0
-    for turn in range(200):
+    for turn in range(TURNS):
         move = seduction(2 * turn)
         replies = [ana.ask(move), tess.ask(CLOSE), tess.ask(BREAK)]
         told += sum(b'"place":' in reply for reply in replies)
         if replies[2] == refusal_of("journal"):
-            break
-    return told
+            return told
+    fail(f"resume: after {TURNS} turns and {told} events no line is refused, though the disk is full")
 
 
-def one_more(lab: Path, journal: Path) -> tuple[int, bytes, Ended]:
+def resume_for_a_fault(lab: Path, journal: Path) -> tuple[int, bytes, Ended]:
     """Resumes a class for one event, a fault, and ends it. Returns the place at which it went on, the reply to the
     fault, and the end of the host."""
     with Host(lab, 0, 0, journal, word="resume") as host:
@@ -233,7 +236,7 @@ def full_disk(room: Path) -> None:
     is_full = len(content) <= 1024 < len(content) + LONGEST
     if ended != FAULT or not is_full or not content.endswith(b"\n") or content.count(b"\n") != told:
         fail(f"resume: on a full disk it ends with {ended}, {len(content)} bytes, {told} events reported")
-    place, reply, ended = one_more(lab, journal)
+    place, reply, ended = resume_for_a_fault(lab, journal)
     if place != told or b'"place":%d' % (told + 1) not in reply or ended.status != 0:
         fail(f"resume: after a full disk it goes on at {place}, not {told}: {reply!r}, {ended}")
     if ended.error or not journal.read_bytes().startswith(content) or sorted(kept(journal)) != ["journal", "journal.lab"]:
@@ -260,7 +263,7 @@ def in_mid_line(room: Path) -> None:
     whole, found, torn = content.rpartition(b"\n")
     if ended != FAULT or len(content) != 4096 or not torn or content.count(b"\n") != told:
         fail(f"resume: on a full disk it ends with {ended}, {len(content)} bytes, {told} events reported")
-    place, reply, ended = one_more(lab, journal)
+    place, reply, ended = resume_for_a_fault(lab, journal)
     if place != told or b'"place":%d' % (told + 1) not in reply or not journal.read_bytes().startswith(whole + found):
         fail(f"resume: after a line that broke off it goes on at {place}, not {told}: {reply!r}")
     if ended.status != 0 or ended.error != b"resume: a torn line of %d bytes is taken off\n" % len(torn):
@@ -280,7 +283,7 @@ def torn_tails(room: Path) -> None:
         journal.write_bytes(FIRST + tail)
         journal.chmod(0o640)
         error = NO_COPY + (b"resume: a torn line of %d bytes is taken off\n" % len(tail) if tail else b"")
-        goes_on(lab, journal, b"resumed at place 2, configuration 1, 0 chosen\n", error, f"a tail of {len(tail)} bytes")
+        check_resumed(lab, journal, b"resumed at place 2, configuration 1, 0 chosen\n", error, f"a tail of {len(tail)} bytes")
         wanted = {"journal": FIRST, **({"journal.~1~": FIRST + tail} if tail else {})}
         if kept(journal) != wanted:
             fail(f"resume: after a tail of {len(tail)} bytes there are {kept(journal)}")
@@ -289,7 +292,7 @@ def torn_tails(room: Path) -> None:
     # A copy gets the next number that is free.
     (room / "journal.~1~").write_bytes(b"another's")
     journal.write_bytes(FIRST + b"3")
-    goes_on(lab, journal, b"resumed at place 2, configuration 1, 0 chosen\n", NO_COPY + b"resume: a torn line of 1 bytes is taken off\n", "a tail")
+    check_resumed(lab, journal, b"resumed at place 2, configuration 1, 0 chosen\n", NO_COPY + b"resume: a torn line of 1 bytes is taken off\n", "a tail")
     if kept(journal) != {"journal": FIRST, "journal.~1~": b"another's", "journal.~2~": FIRST + b"3"}:
         fail("resume: a file was kept under the name of another one")
     for content, line in [
@@ -325,14 +328,14 @@ def other_labs(room: Path) -> None:
     for old, new in [("c-key", "another-key"), ("sessions = 4", "sessions = 7"), ("events = 1000", "events = 1"), ("\n", "\n# a comment\n")]:
         same = room / "same.toml"
         same.write_text(text.replace(old, new, 1), encoding="utf-8")
-        goes_on(same, journal, line, b"", f"a lab with {new}")
+        check_resumed(same, journal, line, b"", f"a lab with {new}")
     copy.write_bytes(b"no lab")
     check_refused(lab, journal, OTHER, "a copy that is no lab")
     copy.unlink()
-    goes_on(lab, journal, line, NO_COPY, "no copy of the lab")
+    check_resumed(lab, journal, line, NO_COPY, "no copy of the lab")
     # A journal with as many events as the lab allows is continued, and one with more isn't.
     journal.write_bytes(FIRST)
-    goes_on(lab_of(room, 4, 2), journal, b"resumed at place 2, configuration 1, 0 chosen\n", NO_COPY, "a limit that is reached")
+    check_resumed(lab_of(room, 4, 2), journal, b"resumed at place 2, configuration 1, 0 chosen\n", NO_COPY, "a limit that is reached")
     check_refused(lab_of(room, 4, 1), journal, Ended(3, b"", NO_COPY + b"audit: line 2: over the limit of events\n"), "a limit that is passed")
 
 
@@ -348,7 +351,7 @@ def copies_through_links(room: Path) -> None:
     other.write_text(lab.read_text(encoding="utf-8").replace('owner = "cyd"', 'owner = "ben"'), encoding="utf-8")
     shutil.copy(other, room / "link.lab")
     check_refused(other, link, OTHER, "another lab, if a link leads to the journal")
-    goes_on(lab, link, b"resumed at place 1, configuration 0, 1 chosen\n", b"", "a link, and a copy beside the journal")
+    check_resumed(lab, link, b"resumed at place 1, configuration 0, 1 chosen\n", b"", "a link, and a copy beside the journal")
 
 
 def numbers_of_both(room: Path) -> None:
@@ -370,8 +373,8 @@ def numbers_of_both(room: Path) -> None:
 
 
 def copies_are_kept(room: Path) -> None:
-    """A host keeps an older journal together with the copy of its lab, and doesn't take the lab's own file for a
-    copy."""
+    """A host keeps an older journal together with the copy of its lab. If the copy would have the name of the lab's own
+    file, no class begins. A journal that isn't a plain file gets no copy."""
     lab, journal = lab_of(room, 4), room / "journal"
     contents = []
     for turn in range(3):
@@ -415,7 +418,7 @@ def asks_again(room: Path) -> None:
         fail(f"resume: after who asks again it ends with {ended}")
 
 
-def held(room: Path) -> None:
+def held_by_a_host(room: Path) -> None:
     """`resume` refuses a journal that a running host uses, whether this host began the class or resumed it."""
     lab, journal = lab_of(room, 4), room / "journal"
     with Host(lab, 0, 0, journal) as host:
@@ -433,8 +436,9 @@ def held(room: Path) -> None:
         fail(f"resume: the first of two ends with {ended}")
 
 
-def files(room: Path) -> None:
-    """A path that isn't a readable and writable plain file is refused, and no file is made."""
+def wrong_files(room: Path) -> None:
+    """A path that isn't a readable and writable plain file is refused, and no file is made. A link to such a file and
+    an empty journal are accepted."""
     lab, journal = lab_of(room, 4), room / "journal"
     check_refused(lab, journal, FAULT, "no journal")
     if journal.exists():
@@ -451,14 +455,15 @@ def files(room: Path) -> None:
     check_refused(lab, journal, FAULT, "a journal that may only be read", as_nobody)
     journal.chmod(0o644)
     os.symlink("journal", room / "other-name")
-    goes_on(lab, room / "other-name", b"resumed at place 2, configuration 1, 0 chosen\n", NO_COPY, "a symlink")
+    check_resumed(lab, room / "other-name", b"resumed at place 2, configuration 1, 0 chosen\n", NO_COPY, "a symlink")
     journal.write_bytes(b"")
-    goes_on(lab, journal, b"resumed at place 0, configuration 0, 0 chosen\n", NO_COPY, "an empty journal")
+    check_resumed(lab, journal, b"resumed at place 0, configuration 0, 0 chosen\n", NO_COPY, "an empty journal")
 
 
 TESTS: list[Test] = [
-    kills, power_cuts, torn_tails, other_labs, full_disk, in_mid_line, failed_sync, copies_are_kept, asks_again, held, files,
-    failed_sync_after_a_resume, folders_that_fail, copies_through_links, numbers_of_both, *away.TESTS, *once.TESTS, *synced.TESTS,
+    kills, power_cuts, torn_tails, other_labs, full_disk, in_mid_line, failed_sync, copies_are_kept, asks_again,
+    held_by_a_host, wrong_files, failed_sync_after_a_resume, folders_that_fail, copies_through_links, numbers_of_both,
+    *away.TESTS, *once.TESTS, *synced.TESTS,
 ]
 
 

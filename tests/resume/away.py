@@ -110,8 +110,8 @@ def taken_away(room: Path) -> None:
 
 
 def taken_away_in_silence(room: Path) -> None:
-    """The host notices a change of the file even if nobody sends a request. It prints the reason at once. Then it
-    refuses each event, and its status is the same as above."""
+    """The host notices that the journal's file was removed or emptied even if nobody sends a request, and prints the
+    reason. Then it refuses each event, and it ends with status 4 and the error `journal fault`."""
     lab, journal = lab_of(room, 4), room / "journal"
     for way, line in ((removed, GONE), (emptied, CHANGED)):
         with Host(lab, 0, 0, journal) as host:
@@ -122,6 +122,7 @@ def taken_away_in_silence(room: Path) -> None:
             if not select.select([host.process.stderr], [], [], NOTICED)[0]:
                 fail(f"resume: in silence, with {name_of(way)}, a host says nothing")
             said = host.process.stderr.readline()
+            # The reply to ana isn't compared: her second move is denied anyway, since the first one is still chosen.
             replies = ana.ask(MOVE), tess.ask(CLOSE), tess.ask(fault_at(1))
             ended = host.dismiss(tess)
         if said != line or replies[1:] != (REFUSED, REFUSED) or ended != Ended(4, b"", FAULT):

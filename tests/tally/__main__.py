@@ -107,9 +107,11 @@ def check_drawn(room: Path, seed: int) -> bool:
     return bool(run.journal)
 
 
-def test(room: Path) -> str:
-    """Checks the runs by hand, and the random ones. Fails if too few of the random ones have an event or the counts of
-    a kind. Returns a line about them."""
+def work(room: Path) -> str:
+    """Checks the tallies of runs that are written by hand, of random journals, of random runs with records, and of
+    random runs that continue step by step. Fails if fewer than half of the random journals have an event. Also fails
+    if, for a word of `recorded.COUNTED`, fewer than half of the runs with records have something to count under it.
+    Returns a line with the numbers of these runs and of the rounds."""
     count = int(sys.argv[1]) if len(sys.argv) > 1 else JOURNALS
     hands = by_hand(room)
     some = sum(check_drawn(room, seed) for seed in range(1, count + 1))
@@ -121,9 +123,9 @@ def test(room: Path) -> str:
         runs = sum(word in words for words in counted)
         if 2 * runs < count:
             fail(f"only in {runs} of {count} drawn runs something is counted as {word}")
-    rounds = stepwise.check_all(room, count)
+    rounds = stepwise.check_all(room, count)  # the rounds of all runs that continue step by step
     return f"{hands} runs by hand, {some} drawn ones, {count} with records and {count} of {rounds} rounds are printed as by the model"
 
 
 if __name__ == "__main__":
-    in_room(test)
+    in_room(work)

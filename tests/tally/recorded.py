@@ -118,7 +118,8 @@ def with_record(tally: str, told: str, refused: str) -> str:
 
 
 def recorded(document: str, talk: Iterable[tuple[int, bytes]]) -> Recording:
-    """Returns the run of these lines, each on its connection, with the lab of this text, with its record."""
+    """Returns the run of the lab with the text `document`, with its record. `talk` has the lines of the run, each with
+    the number of its seat."""
     run = Recording(read_lab(document.encode()))
     for seat, line in talk:
         run.answer(seat, line)
@@ -202,7 +203,8 @@ def forgetful(rng: Random, text: bytes) -> bytes:
 
 
 def check_drawn(room: Path, seed: int) -> set[str]:
-    """Checks the tally of a random run. Returns the first words of those lines that count something about a student."""
+    """Checks the tally of a random run. Its record may have a cut, a pause or refusals for memory. Returns those words
+    of COUNTED whose lines in the tally have a count that isn't 0."""
     rng = Random(seed)
     document = drawn_lab(rng)
     run = drawn_run(rng, read_lab(document.encode("ascii")))

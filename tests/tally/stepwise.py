@@ -1,5 +1,6 @@
 """Random runs that continue step by step, with faults, links and cuts. The rounds that `tally` prints have to be those
-of the plain model, and those that `classroom` counts along the configurations."""
+of the plain model, and those that `classroom` counts along the configurations. A *round* ends as soon as each node has
+moved or wasn't privileged (no rule could be applied at it) at some moment of the round."""
 from __future__ import annotations
 
 from pathlib import Path
@@ -21,7 +22,7 @@ EVENTS = 120  # the most events of a run, unless its lab allows fewer
 
 
 class Run:
-    """A run in the making, and the count along its configurations."""
+    """A run that grows step by step, and the count of its moves and rounds along its configurations."""
 
     def __init__(self, rng: Random, lab: Lab) -> None:
         """Begins a run of a lab. `rng` makes all random choices."""
@@ -46,14 +47,14 @@ class Run:
         self.put(self.rng.choice(self.lab.owners[node]), Request("move", node=node, at=self.world.number, move=move))
 
     def close(self) -> None:
-        """Closes the step, and counts it."""
+        """Closes the step, and counts its moves and the rounds that end with it."""
         moved, before = set(self.world.chosen), self.recovery.rounds
         self.put(self.lab.teacher, Request("close"))
         self.recovery.step(moved, privileged(self.world))
         self.ended += self.recovery.rounds - before
 
     def change(self) -> None:
-        """Makes a random fault, link or cut, from which a new count begins."""
+        """Makes a random fault, link or cut, and begins a new count of moves and rounds."""
         self.put(self.lab.teacher, changed(self.rng, self.world))
         self.recovery = Recovery(privileged(self.world))
 

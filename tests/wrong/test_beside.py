@@ -78,7 +78,8 @@ class Proved(InRoom):
         self.assertEqual(({*self.tree.missing("top")}, self.tree.missing("high")), ({"high"}, []))
 
     def test_a_library_is_kept_if_it_can_not_be_linked(self) -> None:
-        """A file can't be linked to another disk."""
+        """On another disk a file can't be linked. Then the kept library is a symbolic link to the folder of the crate's
+        library."""
         self.write("low", "new")
         with mock.patch("os.link", side_effect=OSError):
             self.assertEqual([*as_proved(self.tree, ["low"], iter(("low\n",)), Running(beside=1))], ["low"])

@@ -175,7 +175,7 @@ class Drawing(unittest.TestCase):
             tried = [pair.new for plant in bad for pair in plant.edit.pairs if texts["src/thing.rt"].count(pair.new) != SOURCE.count(pair.new)]
             return "src/thing.rt:1:1: error: it has no such name\n" if tried else ""
 
-        with mock.patch.object(drawing, "look", look), mock.patch.object(drawing, "ask_prover", side_effect=told):
+        with mock.patch.object(drawing, "check_types", look), mock.patch.object(drawing, "ask_prover", side_effect=told):
             return {plant.function: (plant, verdict) for plant, verdict in ask_crate(self.tree, "low", drawn, "", Running())}
 
     def test_a_plant_does_not_compile_or_is_refused_or_let_through_or_undecided(self) -> None:

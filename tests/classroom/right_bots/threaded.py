@@ -48,19 +48,19 @@ class Bot:
                 self.looks.task_done()
 
     def lasting(self, work: str) -> None:
-        """Calls the method with the name `work` until the class is over, which ends the program. If the connection is
-        lost, the first thread that notices it connects again."""
-        while True:
-            me = self.me
-            try:
-                getattr(self, work)()
-            except (Closed, Refused) as lost:
-                with self.lock:
-                    try:
+        """Calls the method with the name `work` again and again. Ends the program when the class is over, or at a denial
+        that shows a mistake. If the connection is lost, the first thread that notices it connects again."""
+        try:
+            while True:
+                me = self.me
+                try:
+                    getattr(self, work)()
+                except (Closed, Refused) as lost:
+                    with self.lock:
                         # If the other thread has connected again already, its connection is kept.
                         self.me = self.me if self.me is not me else again(self.slip, lost)
-                    except (Closed, Refused) as error:
-                        os._exit(stop(error)[0])
+        except (Closed, Denied, Refused) as error:
+            os._exit(stop(error)[0])
 
 
 if __name__ == "__main__":
