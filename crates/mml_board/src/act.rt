@@ -15,7 +15,7 @@ use mml_rules::Rule;
 
 /// A request for an event, with its nodes looked up: a node is `None` if no node has the identifier that was named. The
 /// act is granted if all its clauses, the conditions for it, hold.
-#[derive(Clone, Copy, Debug, PartialEq, Eq)]
+#[derive(Clone, Copy, PartialEq, Eq)]
 pub enum Act {
     /// Choose a move for a node in the configuration with the number `at`. `rule` is `None` if no node has the
     /// identifier of a marriage's partner.
@@ -68,7 +68,7 @@ impl Owners for Roster {
 }
 
 /// Owners for whom everybody owns every node. With them, the clause about the owner of a node always holds.
-#[derive(Clone, Copy, Debug)]
+#[derive(Clone, Copy)]
 pub struct Anybody;
 
 impl Owners for Anybody {

@@ -16,7 +16,7 @@ use std::alloc::Global;
 use std::marker::Model;
 
 /// For each node its chosen move, if it has one. Contracts see the list of these, by rank.
-#[derive(Debug, Drop)]
+#[derive(Drop)]
 pub struct Choices {
     // the chosen move of each node, by rank
     rules: Vec<Option<Rule>>,

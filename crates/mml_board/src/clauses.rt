@@ -2,7 +2,8 @@
 //!
 //! An act is a request for an event. A clause is a condition for it; a denial says which clause doesn't hold. A grant
 //! chooses a move for a node, a release drops it, and a close applies all chosen moves at once. A fault sets a node's
-//! registers, a link joins two nodes, and a cut removes a link.
+//! registers, a link joins two nodes, and a cut removes a link. The rank of a node is its index in the rising order
+//! of identifiers. A board is the state of a run after some events.
 //!
 //! A node of an act is `None` if no node has the identifier that was asked for. Functions whose bodies don't read
 //! `owners` have it as a parameter because their contracts name it.

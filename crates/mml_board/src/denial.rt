@@ -5,7 +5,7 @@ ghost use Rattle.std.specs.Prelude.{◌≡◌};
 ghost use Rattle.mml_board.specs.Denials.{clause_of, denial_name, text_of};
 
 /// Why a request is denied: the first clause that doesn't hold.
-#[derive(Clone, Copy, Debug, PartialEq, Eq)]
+#[derive(Clone, Copy, PartialEq, Eq)]
 pub enum Denial {
     /// The connection has no name yet.
     NotGreeted,

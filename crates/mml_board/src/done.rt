@@ -7,7 +7,7 @@ use mml_rules::Kind;
 
 /// The effect of an event. The reply to the event also has the event's place and the number of the configuration after
 /// it, which aren't here.
-#[derive(Clone, Copy, Debug)]
+#[derive(Clone, Copy)]
 pub enum Done {
     /// A move of that kind is chosen for the node.
     Move { node: Rank, kind: Kind },

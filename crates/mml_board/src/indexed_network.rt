@@ -20,7 +20,7 @@ use std::alloc::Global;
 use std::marker::Model;
 
 /// A network with an index, sets of nodes that answer questions about it quickly. Contracts see only the network.
-#[derive(Debug, Drop)]
+#[derive(Drop)]
 pub struct IndexedNetwork {
     network: Network,
     // the nodes that point at each node, by rank
@@ -113,8 +113,7 @@ impl IndexedNetwork {
         })
     }
 
-    /// Returns the candidates of a node, which must exist: the neighbours of which it seduces the greatest if Seduction
-    /// is enabled at it.
+    /// Returns the candidates of a node, which must exist. A seduction of the node chooses the greatest of them.
     fn candidates(&self, node: Rank) -> NodeSet
         requires { node < length self.now.registers }
         ensures { (j : ℕ) → set.contains result j ≡

@@ -1,4 +1,5 @@
-//! The number of events that came before a record, as the file `begun` in the record's folder states it.
+//! The number of events that came before a record, as the file `begun` in the record's folder states it. The record
+//! of a class has the lines of its connections and the replies.
 ghost use Rattle.std.specs.Prelude.{◌≡◌};
 ghost use Rattle.mml_class.specs.Begun.{begun_in, decimal_in, unended};
 

@@ -1,10 +1,11 @@
 //! The record of a class: the texts of all seats, one each.
 //!
 //! A seat serves one connection after another, each through the seat's window. The text of a seat has its lines with
-//! their replies. `number` is always the number of a seat, from 1. `events` is the list of events of the class's
-//! journal, which must be legal in the lab. The place of an event is its number in this list, from 1. A text grants an
-//! event if a reply in it names the event's place. In contracts, `start` and `texts` are the texts that `seats` opens.
-//! They say nothing of texts that can't be named there.
+//! their replies. After a line couldn't be written to the journal, a server refuses with `journal` whatever it would
+//! grant. `number` is always the number of a seat, from 1. `events` is the list of events of the class's journal,
+//! which must be legal in the lab. The place of an event is its number in this list, from 1. A text grants an event
+//! if a reply in it names the event's place. In contracts, `start` and `texts` are the texts that `seats` opens. They
+//! say nothing of texts that can't be named there.
 ghost use Rattle.std.specs.Prelude.{◌≡◌, ℕ, List, Option, None, Some, true, IfOk, IfErr, IfSome, OnOk};
 ghost use Rattle.mml_board.specs.Lists.{is_legal_in};
 ghost use Rattle.mml_class.specs.Begun.{begun_in};
@@ -33,7 +34,7 @@ pub const MAX_RECORD: u32 = 1_073_741_824;
 const MAX_BEGUN: u32 = 20;
 
 /// The result of checking the record of a class, if it is correct.
-#[derive(Debug, Drop)]
+#[derive(Drop)]
 pub struct ClassRecord {
     /// How many events came before the record began.
     pub begun: u64,
@@ -44,7 +45,7 @@ pub struct ClassRecord {
 }
 
 /// Why the texts aren't the record of a class, or couldn't be read.
-#[derive(Clone, Copy, Debug)]
+#[derive(Clone, Copy)]
 pub enum ClassFault {
     /// The text of this seat isn't a record, because of this entry, which is its first bad one.
     Entry { seat: u8, bad: BadEntry },
@@ -70,10 +71,9 @@ impl From<SeatFault> for ClassFault {
 
 /// Checks that the texts of all seats are the record of a class with this list of events, which must be legal. First
 /// reads how many events came before the record, and then the text of each seat. In each text checks that no events
-/// follow a refusal `journal`, unless the class was resumed between. At last checks that only events of the record are
-/// granted, none of them twice, and each of them if the texts leave nothing out. Returns the first fault
-/// that is found. If `with_asks` is set, also returns what each line asked; each text is then read into memory as a
-/// whole.
+/// follow a refusal `journal`, unless the class was resumed in between. At last checks that only events of the record
+/// are granted, none of them twice, and each of them if the texts leave nothing out. Returns the first fault that is
+/// found. If `with_asks` is set, also returns what each line asked; each text is then read into memory as a whole.
 pub fn read_class<R: Read + Drop, S: Seats<R>>(
     alloc: Global,
     lab: &Lab,
@@ -120,8 +120,9 @@ pub fn read_class<R: Read + Drop, S: Seats<R>>(
 
 /// Returns the first fault in the list `places` of the places that the records grant. A place is a fault if it isn't
 /// from `begun` + 1 to `count`, or if it came earlier in the list, too. If there is no such place and the records are
-/// `whole`, the fault is the lowest place from `begun` + 1 to `count` that isn't in the list. Returns `None` if there
-/// is no fault, and `Memory` if memory runs out.
+/// `whole`, the fault is the lowest place from `begun` + 1 to `count` that isn't in the list. `begun` is how many
+/// events came before the record, `count` how many there are in all, and `whole` is whether nothing is left out of
+/// the records. Returns `None` if there is no fault, and `Memory` if memory runs out.
 fn find_amiss(
     alloc: Global,
     places: &[u64],

@@ -45,7 +45,8 @@ pub(crate) fn together(a: &Findings, b: &Findings) -> Findings
     }
 }
 
-/// Returns the union of two sets of students. A student stands there as a rank: the index of the student in the roster.
+/// Returns the union of two sets of students. In such a set, a student is represented by a rank: the student's index
+/// in the roster.
 fn union(a: NodeSet, b: NodeSet) -> NodeSet
     ensures { (q : ℕ) → set.contains result q ≡ (set.contains a q || set.contains b q) }
 {

@@ -10,7 +10,7 @@ use mml_ids::Memory;
 use std::alloc::Global;
 
 /// What is wrong with the places that records grant.
-#[derive(Clone, Copy, Debug, PartialEq, Eq, Drop)]
+#[derive(Clone, Copy, PartialEq, Eq, Drop)]
 pub enum Misgranted {
     /// No event of the record has this place: it happened before the record began, or never.
     Early(u64),
@@ -64,10 +64,11 @@ fn first_unmarked(marks: &[bool], begun: u64) -> Option<Misgranted>
     None
 }
 
-/// Checks the list `places` of the places that records grant, and returns the first fault, or `None` if there is none.
-/// Each place must be from `begun` + 1 to `count`, and none may be there twice. If this holds and the records are
-/// `whole`, all these numbers must be there, and the lowest missing one is the fault. Returns `Memory` if memory runs
-/// out.
+/// Checks the list `places` of the places that records grant, and returns the first fault, or `None` if there is
+/// none. `begun` is how many events came before the record, `count` how many there are in all, and `whole` is whether
+/// nothing is left out of the records. Each place must be from `begun` + 1 to `count`, and none may be there twice.
+/// If this holds and `whole` is set, all these numbers must be there, and the lowest missing one is the fault.
+/// Returns `Memory` if memory runs out.
 pub fn find_misgranted(
     alloc: Global,
     places: &[u64],

@@ -8,7 +8,7 @@ use mml_ids::Memory;
 use std::io::Read;
 
 /// Why a text of a class's record couldn't be read.
-#[derive(Clone, Copy, Debug, PartialEq, Eq)]
+#[derive(Clone, Copy, PartialEq, Eq)]
 pub enum SeatFault {
     /// The text can't be opened, a read failed, the text is too long, or it doesn't state how many events came before
     /// the record.

@@ -12,7 +12,7 @@ use mml_policy::{Command, Denial};
 
 /// The result of a request on a connection. By the rules of greeting, an account is known on a connection from its
 /// granted hello to its bye, and only then is a command judged.
-#[derive(Debug, Drop)]
+#[derive(Drop)]
 pub enum Greeting {
     /// A reply, and the participant that the connection is known as from then on.
     Answered { reply: Reply, known: Option<Who> },
@@ -21,7 +21,7 @@ pub enum Greeting {
 }
 
 /// The result of a request on a connection, without the reply, which is stored elsewhere.
-#[derive(Clone, Copy, Debug)]
+#[derive(Clone, Copy)]
 pub enum Greeted {
     /// The request is answered, and this is the participant that the connection is known as from then on.
     Known(Option<Who>),

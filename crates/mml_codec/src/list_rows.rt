@@ -2,6 +2,8 @@
 //!
 //! The fields of a reply are in byte order of their keys. A `ListRow` has the fields before a list, the list, and what
 //! comes after it. A `Row` has a key, its value and what comes after it, and an `Opening` has the key of a list.
+//! `Rest` has the fields after the last list, and `End` is the end of the object. A `Word` is a text that is written
+//! in quotation marks.
 ghost use Rattle.std.specs.Prelude.{◌≡◌, ◌≤◌, ◌<◌, ◌^◌, ◌++◌, length, OnOk, vec_capacity};
 ghost use Rattle.mml_policy.specs.About.{IsLookedAt};
 ghost use Rattle.mml_stable.specs.Reports.{NamesNodes};

@@ -137,8 +137,8 @@ impl Listed for (Rank, Regs) {
 }
 
 /// Returns the line with the beginning of a neighbour's object appended: the value `m` of its register m, and the key
-/// `node`. Each of the two texts is one literal, which is faster than three parts. The line must have room for 18 more
-/// bytes.
+/// `node`. For each value of `m` this is one literal, since appending one is faster than appending three parts. The
+/// line must have room for 18 more bytes.
 #[inline(always)]
 fn with_first_m_then_node(line: Vec<u8>, m: bool) -> Vec<u8>
     requires { length line.items + 18 ≤ vec_capacity line }

@@ -28,7 +28,7 @@ pub const JOURNAL_LINE: &str = "{\"refuse\":\"journal\"}\n";
 pub const MEMORY_LINE: &str = "{\"refuse\":\"memory\"}\n";
 
 /// Why a request got neither an answer nor a denial.
-#[derive(Clone, Copy, Debug, PartialEq, Eq)]
+#[derive(Clone, Copy, PartialEq, Eq)]
 pub enum Refused {
     /// The line is no request.
     Malformed,
@@ -56,7 +56,7 @@ impl From<Refusal> for Refused {
 }
 
 /// The reply to a line.
-#[derive(Debug, Drop)]
+#[derive(Drop)]
 pub enum Reply {
     /// This participant is known on the connection from now on.
     Hello(Who),

@@ -1,9 +1,10 @@
 //! The fields of each reply except a look and a report. The error `Memory` means that memory ran out.
 //!
 //! The fields of a reply are in byte order of their keys. A `Row` has a key, its value and the fields after it, and
-//! `End` is the end of the object. The place of an event is its number in the list of events, from 1. A clause is a
-//! condition under which a request is granted. `ids` must have an identifier for each node that a reply names.
-//! `numbers` has the place of the event that a reply grants, and the number of the configuration after it.
+//! `End` is the end of the object. A `Word` is a text that is written in quotation marks. The place of an event is
+//! its number in the list of events, from 1. A clause is a condition under which a request is granted. `ids` must
+//! have an identifier for each node that a reply names. `numbers` has the place of the event that a reply grants, and
+//! the number of the configuration after it.
 ghost use Rattle.std.specs.Prelude.{◌≡◌, ◌≤◌, ◌<◌, ◌^◌, ◌∷◌, length};
 ghost use Rattle.mml_ids.specs.Pieces.{Puts};
 ghost use Rattle.mml_lab.specs.Rosters.{name_of, IsPrincipal};

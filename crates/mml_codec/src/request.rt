@@ -11,7 +11,7 @@ use mml_policy::Command;
 use std::alloc::AllocError;
 
 /// A request: what one line of a client asks for.
-#[derive(Debug, Drop)]
+#[derive(Drop)]
 pub enum Request {
     /// Asks that the connection is known as the participant with this name and key.
     Hello { name: Word, key: Word },

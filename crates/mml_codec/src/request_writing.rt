@@ -86,8 +86,9 @@ fn command_text(alloc: Global, command: Command) -> Result<Vec<u8>, AllocError>
     }
 }
 
-/// Returns the text of the request for a move, without a newline. Only a marriage has the key `with`, for its partner,
-/// as the last key. Returns an error if memory runs out.
+/// Returns the text of the request for a move by `rule` at the node with the identifier `node`, in configuration
+/// `at`, without a newline. Only a marriage has the key `with`, for its partner, as the last key. Returns an error if
+/// memory runs out.
 fn move_text(alloc: Global, node: u64, rule: Asked, at: u64) -> Result<Vec<u8>, AllocError>
     ensures { IfOk result (λ text. text.items ≡ compact_text (object_of
         (command_fields (command.Move node rule at)))) }

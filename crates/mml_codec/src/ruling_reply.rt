@@ -1,7 +1,7 @@
 //! The reply to a ruling.
 //!
 //! A ruling is what the policy decides about a command: a denial, what is shown, a granted event, or a refusal. The
-//! place of an event is its number in the list of events, from 1.
+//! place of an event is its number in the list of events, from 1. A board is the state of a run after some events.
 ghost use Rattle.std.specs.Prelude.{◌≡◌, IfOk, OnErr};
 ghost use Rattle.mml_policy.specs.declared.ruling.Ruling.TheVariants as rulings;
 ghost use Rattle.mml_codec.specs.Rulings.{reply_of, reply_of_done};

@@ -8,7 +8,7 @@ use std::io;
 use std::io::{Error, ErrorKind, Read, Write};
 
 /// A reader or a writer that retries if a signal interrupts a read or a write.
-#[derive(Debug, Drop)]
+#[derive(Drop)]
 pub struct Retrying<T: Drop> {
     pub inner: T,
     /// Whether a read or a write has failed because memory ran out.

@@ -8,7 +8,7 @@ use mml_policy::Command;
 use std::alloc::Global;
 
 /// The error of a view that gets no reply, since the engine is closed: it shows nothing any more.
-#[derive(Clone, Copy, Debug, PartialEq, Eq)]
+#[derive(Clone, Copy, PartialEq, Eq)]
 pub struct Closed;
 
 /// A server's state, which answers the commands of known participants. The reply to a view depends on the events that

@@ -8,7 +8,7 @@ use std::fs::TryLockError;
 use std::io::{Error as IoError, ErrorKind};
 
 /// Why a file of a run, a journal or a record, couldn't be opened or used.
-#[derive(Clone, Copy, Debug, PartialEq, Eq)]
+#[derive(Clone, Copy, PartialEq, Eq)]
 pub enum FileFault {
     /// The file can't be opened, made, locked, kept under another name, read or written. Or another program writes it,
     /// or it is also used as another file of the run.

@@ -378,10 +378,10 @@ impl LineRest for ReplyRest<'_> {
     }
 }
 
-/// Writes the line of a reply into the buffer `out`, and from there appends it, after `front`, to the held lines in
-/// `outgoing`. If memory runs out, the line is that of the refusal `memory`. `out` must have a capacity of at least
-/// `REPLY_ROOM`. The function is called for a reply that isn't short, or for which the held lines must be written
-/// first. Returns `WriteFault` if a write fails.
+/// Writes the line of the reply `rest` into the buffer `out`, and from there appends it to the held lines in
+/// `outgoing`, after `front`: the number of the connection and a space. If memory runs out, the line is that of the
+/// refusal `memory`. `out` must have a capacity of at least `REPLY_ROOM`. The function is called for a reply that
+/// isn't short, or for which the held lines must be written first. Returns `WriteFault` if a write fails.
 #[inline(never)]
 fn write_by_buffer<W: Write>(
     alloc: Global,

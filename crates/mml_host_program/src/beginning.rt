@@ -1,10 +1,11 @@
 //! A new class: from its first line of output to its last.
 //!
-//! A house is one run of a lab that threads share, and its log is its result at the end. The host's state is what the
-//! threads that serve the class have noted. A bell is rung when a session ends, and wakes the threads of the ports at
-//! the end of the class. A sink is the destination of the journal's bytes, and is fresh if it has none yet. The
-//! observers, one for each seat of the host, record the sessions, or do nothing. A seat serves one connection after
-//! another. Values are dropped by calls of `drop` before a function returns, which keeps the proofs short.
+//! A `Ready` has what a class needs: its lab, its open ports and its observers. A house is one run of a lab that
+//! threads share, and its log is its result at the end. The host's state is what the threads that serve the class
+//! have noted. A bell is rung when a session ends, and wakes the threads of the ports at the end of the class. A sink
+//! is the destination of the journal's bytes, and is fresh if it has none yet. The observers, one for each seat of
+//! the host, record the sessions, or do nothing. A seat serves one connection after another. Values are dropped by
+//! calls of `drop` before a function returns, which keeps the proofs short.
 ghost use Rattle.std.specs.Prelude.{◌≡◌, ◌<◌, ◌+◌, ◌-◌, ◌^◌, IfOk, OnOk, length};
 ghost use Rattle.std.specs.Io.KnownBytes.{Appends};
 ghost use Rattle.mml_journal.specs.Taken.{IsFresh};

@@ -1,11 +1,12 @@
 //! Serving a class whose ports are open, with its journal and its record.
 //!
-//! The journal of a class has a line for each granted event. The record of a class has the lines of its connections and
-//! the replies. The watch of a journal's file says whether another program has removed or changed the file, and an eye
-//! makes its checks. The observers, one for each seat of the host, record the sessions, or do nothing. A seat serves
-//! one connection after another. In contracts, a `Class` is the number of its lab's sessions. Each function that serves
-//! a class returns the reason if the class can't begin or be resumed, or fails. Values are dropped by calls of `drop`
-//! before a function returns, which keeps the proofs short.
+//! The journal of a class has a line for each granted event. A sink is the destination of the journal's bytes. An
+//! audit checks whether a text is the journal of a run of a lab. The record of a class has the lines of its
+//! connections and the replies. The watch of a journal's file says whether another program has removed or changed the
+//! file, and an eye makes its checks. The observers, one for each seat of the host, record the sessions, or do
+//! nothing. A seat serves one connection after another. In contracts, a `Class` is the number of its lab's sessions.
+//! Each function that serves a class returns the reason if the class can't begin or be resumed, or fails. Values are
+//! dropped by calls of `drop` before a function returns, which keeps the proofs short.
 ghost use Rattle.std.specs.Prelude.{◌≡◌, ◌+◌, IsOk, OnOk, length};
 ghost use Rattle.std.specs.Thread.{IsSync, IsSend};
 ghost use Rattle.mml_host_program.specs.Classes.{IsAuditedIn};

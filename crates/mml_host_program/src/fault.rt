@@ -1,8 +1,8 @@
 //! Errors that end the program early: one line on standard error and a status.
 //!
 //! The journal of a class has a line for each granted event, and is halted if a line couldn't be written to it. The
-//! record of a class has the lines of its connections and the replies. The place of an event is its number in the list
-//! of events, from 1.
+//! record of a class has the lines of its connections and the replies. The place of an event is its number in the
+//! list of events, from 1. An audit checks whether a text is the journal of a run of a lab.
 ghost use Rattle.std.specs.Prelude.{◌≡◌};
 ghost use Rattle.mml_program.specs.Faults.{of_journal_file};
 ghost use Rattle.mml_host_program.specs.Faults.{exit_status, of_record};

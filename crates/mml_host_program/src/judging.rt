@@ -2,8 +2,9 @@
 //! answers a script line by line.
 //!
 //! The journal of a class has a line for each granted event. The record of a class has the lines of its connections and
-//! the replies. The tally has counts of what happened in a run. Values are dropped by calls of `drop` before a function
-//! returns, which keeps the proofs short.
+//! the replies. The tally has counts of what happened in a run. A `task` has the paths of the files and the folder
+//! that its subcommand reads. Values are dropped by calls of `drop` before a function returns, which keeps the proofs
+//! short.
 
 mod answering;
 mod class_error;

@@ -1,11 +1,12 @@
 //! A class that is resumed: from the end of its journal to its last line of output.
 //!
-//! A house is one run of a lab that threads share, and its log is its result at the end. The host's state is what the
-//! threads that serve the class have noted. A bell is rung when a session ends, and wakes the threads of the ports at
-//! the end of the class. A sink is the destination of the journal's bytes, and a store returns the sink that appends to
-//! the old journal. The observers, one for each seat of the host, record the sessions, or do nothing. A seat serves one
-//! connection after another. Values are dropped by calls of `drop` before a function returns, which keeps the proofs
-//! short.
+//! A `Ready` has what a class needs apart from its journal: its lab, its open ports and its observers. A `Past` has
+//! the old journal: its open file, what the audit found in it, and the watch of the file. A house is one run of a lab
+//! that threads share, and its log is its result at the end. The host's state is what the threads that serve the
+//! class have noted. A bell is rung when a session ends, and wakes the threads of the ports at the end of the class.
+//! A sink is the destination of the journal's bytes, and a store returns the sink that appends to the old journal.
+//! The observers, one for each seat of the host, record the sessions, or do nothing. A seat serves one connection
+//! after another. Values are dropped by calls of `drop` before a function returns, which keeps the proofs short.
 ghost use Rattle.std.specs.Prelude.{◌≡◌, ◌+◌, IfOk, None, length};
 ghost use Rattle.mml_resuming.specs.Resuming.{IsAudited};
 ghost use Rattle.mml_host_program.specs.Telling.{ports_line, TellsResumed};

@@ -218,8 +218,8 @@ fn tally_over<'a>(lab: &'a str, values: &ArgMatches<'a>) -> Option<JudgingTask<'
     Some(tally_task(lab, journal, values.get_str("record")))
 }
 
-/// Returns the task of printing the tally of the `journal`, or of the journal and the record in the `folder` if one is
-/// named.
+/// Returns the task of printing the tally of the `journal`, or of the journal and the record in the `folder` if one
+/// is named, for the lab in the file `lab`.
 fn tally_task<'a>(lab: &'a str, journal: &'a str, folder: Option<&'a str>) -> JudgingTask<'a>
     ensures { wanted_by result ≡ tally_wanted lab.now journal.now (seen folder.entry) }
 {

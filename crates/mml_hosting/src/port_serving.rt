@@ -5,7 +5,9 @@
 //! set when the seat's thread has ended, or is about to end without waiting for anything. A cut-off is the means by
 //! which another thread ends a connection. The bell is the signal by which these threads wake the house. A pledge is
 //! the contract of a thread's result, which the thread that joins it can rely on. The desk is the port at which the
-//! teacher's bye ends the house.
+//! teacher's bye ends the house. `setting` has what all sessions share: the runtime, the allocator, and the lock
+//! around the house's events and journal. The lock's field is also called `desk`. `scope` is the scope of the
+//! threads: it ends only when all of them have ended.
 //!
 //! In contracts, `terms` bundles what they are about: the lab, the events from before the house was opened, and what
 //! was sent, read, recorded and kept. Clauses with `g` and `h` count the seats and their connections: none is lost or

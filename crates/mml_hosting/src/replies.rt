@@ -1,7 +1,8 @@
 //! Observers of a connection's replies, and of the end of its session.
 //!
 //! A seat serves one connection after another, each through the seat's window. A seat's observer is for all its
-//! sessions, and a reply observer for one connection.
+//! sessions, and a reply observer for one connection. `number` is always the number of the seat, and `seen` how many
+//! events the seat's window has seen.
 ghost use Rattle.std.specs.Prelude.{◌≡◌};
 
 use mml_codec::Reply;
@@ -18,7 +19,7 @@ pub trait ReplyObserver {
 }
 
 /// An observer that notes nothing.
-#[derive(Clone, Copy, Debug, Drop)]
+#[derive(Clone, Copy, Drop)]
 pub struct NoReplies;
 
 impl ReplyObserver for NoReplies {

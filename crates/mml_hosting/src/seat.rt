@@ -1,9 +1,10 @@
 //! Seats: windows through which one connection after another is served.
 //!
-//! A window is one session's view of the published events and board. The desk is the port at which the teacher's bye
-//! ends the class. The mark of a seat is a flag that is set when the thread that serves in it is about to end. In
-//! contracts, `terms` bundles what they are about: the lab, the events from before the house was opened, and what was
-//! sent, read, recorded and kept.
+//! A house is one run of a lab that threads share. A window is one session's view of the published events and board.
+//! The desk is the port at which the teacher's bye ends the class. The mark of a seat is a flag that is set when the
+//! thread that serves in it is about to end. `setting` has what all sessions share: the runtime, the allocator, and
+//! the lock around the house's events and journal. In contracts, `terms` bundles what they are about: the lab, the
+//! events from before the house was opened, and what was sent, read, recorded and kept.
 ghost use Rattle.std.specs.Prelude.{◌≡◌, ◌&&◌};
 ghost use Rattle.mml_session.specs.Records.{EndedRecorded};
 ghost use Rattle.mml_hosting.specs.Seats.{IsReady, ServesIn, is_teachers_bye, terms};

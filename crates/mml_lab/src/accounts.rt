@@ -6,7 +6,7 @@ ghost use Rattle.mml_lab.specs.Rosters.{is_name_byte, is_name};
 use crate::MAX_NAME;
 
 /// A participant's name, and the secret key that belongs to it.
-#[derive(Debug, Drop)]
+#[derive(Drop)]
 pub struct Account {
     pub name: String,
     pub key: String,

@@ -14,7 +14,7 @@ use mml_rules::{Network, Regs};
 use std::marker::Model;
 
 /// A lab: the network at the beginning, who takes part, and the limits of a run. Nodes are named by their ranks.
-#[derive(Debug, Drop)]
+#[derive(Drop)]
 pub struct Lab {
     ids: IdTable,
     roster: Roster,

@@ -22,7 +22,7 @@ use std::alloc::Global;
 use std::marker::Model;
 
 /// The participants of a lab, with their names and keys, and the owners of each node.
-#[derive(Debug, Drop)]
+#[derive(Drop)]
 pub struct Roster {
     teacher: Account,
     // the key of each student under the student's name, in the file's order

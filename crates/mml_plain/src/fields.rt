@@ -11,7 +11,7 @@ use crate::member_value::MemberValue;
 /// The values of the keys that requests use, for one object. Each field but `word` has the name of its key. A field is
 /// `None` if the object doesn't have the key, or its value is of another kind. If a key occurs several times, its last
 /// value counts.
-#[derive(Clone, Copy, Debug, Drop)]
+#[derive(Clone, Copy, Drop)]
 pub struct Fields<'a> {
     /// The request's word, under the key `do`.
     pub word: Option<&'a str>,

@@ -4,7 +4,6 @@ ghost use Rattle.json.specs.Scratch.{room};
 
 use json::Scratch;
 use std::alloc::{AllocError, Global};
-use std::fmt::{self, Debug, Formatter, Write};
 use std::marker::Model;
 
 /// Working memory for reading lines, which is used again for each line. In contracts its value is the length of the
@@ -40,12 +39,5 @@ impl LineScratch {
         ensures { room result.now ≡ self.old }
     {
         &mut self.inner
-    }
-}
-
-impl Debug for LineScratch {
-    // Writes only the name of the type: the memory's contents belong to no line in particular.
-    fn fmt<W: Write>(&self, f: &mut Formatter<W>) -> fmt::Result {
-        f.write_str("LineScratch")
     }
 }

@@ -6,7 +6,7 @@ ghost use Rattle.std.specs.Prelude.{◌≡◌};
 ghost use Rattle.mml_policy.specs.Acts.{is_act};
 
 /// A command: what a participant may ask for on a connection after the hello. Nodes are named by their identifiers.
-#[derive(Clone, Copy, Debug, PartialEq, Eq)]
+#[derive(Clone, Copy, PartialEq, Eq)]
 pub enum Command {
     /// Shows the registers of a node.
     See { node: u64 },
@@ -29,7 +29,7 @@ pub enum Command {
 }
 
 /// A rule as a command names it: the partner of a marriage by its identifier.
-#[derive(Clone, Copy, Debug, PartialEq, Eq)]
+#[derive(Clone, Copy, PartialEq, Eq)]
 pub enum Asked {
     Update,
     /// A marriage with the node that has this identifier.

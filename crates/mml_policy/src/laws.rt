@@ -3,7 +3,8 @@
 //! A world is a network with its registers, its chosen moves, the number of its configuration, and the number of events
 //! so far. A grant chooses a move for a node, a release drops it, and a close applies all chosen moves at once. A fault
 //! sets a node's registers, a link joins two nodes, and a cut removes a link. The registers of a node are its pointer p
-//! and m, which is true or false. A node is privileged if some rule is enabled there.
+//! and m, which is true or false. A node is privileged if some rule is enabled there. The rank of a node is its index
+//! in the rising order of identifiers.
 //!
 //! A command asks to be shown something (a see, a look or a report), or for an event. A command is granted if all its
 //! clauses, the conditions for it, hold; otherwise it is denied by the first that doesn't. This decision is the

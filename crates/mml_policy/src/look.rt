@@ -12,7 +12,7 @@ use mml_rules::{Kind, Regs, Scene, kind_of};
 use std::alloc::Global;
 
 /// A node as shown to its owners and the teacher.
-#[derive(Debug, Drop)]
+#[derive(Drop)]
 pub struct Look {
     /// The number of the configuration that is shown.
     pub at: u64,

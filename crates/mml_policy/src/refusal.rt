@@ -5,7 +5,7 @@
 use mml_ids::Memory;
 
 /// Why an act doesn't happen although all its clauses hold, or why the reply to a ruling can't be made.
-#[derive(Clone, Copy, Debug, PartialEq, Eq)]
+#[derive(Clone, Copy, PartialEq, Eq)]
 pub enum Refusal {
     /// The run already has as many events as the lab allows.
     Full,

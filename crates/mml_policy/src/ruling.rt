@@ -20,7 +20,7 @@ use mml_lab::Who;
 use std::alloc::Global;
 
 /// The ruling on a command: its denial, what it shows, the event that it causes, or a refusal in place of the event.
-#[derive(Debug, Drop)]
+#[derive(Drop)]
 pub enum Ruling {
     /// A clause doesn't hold.
     Denied(Denial),

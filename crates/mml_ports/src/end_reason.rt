@@ -4,7 +4,7 @@
 use mml_hosting::BUSY;
 
 /// Why the host ends a connection.
-#[derive(Clone, Copy, Debug, PartialEq, Eq)]
+#[derive(Clone, Copy, PartialEq, Eq)]
 pub enum EndReason {
     /// There is no seat for the connection.
     Busy,

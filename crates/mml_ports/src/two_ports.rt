@@ -23,7 +23,7 @@ const FIRST_CHECKS: u32 = 1000;
 const CHECK_INTERVAL: u64 = 1;
 
 /// Why the host can't listen on a port.
-#[derive(Clone, Copy, Debug, PartialEq, Eq)]
+#[derive(Clone, Copy, PartialEq, Eq)]
 pub enum ListenFault {
     /// The system refuses the port, or another program listens there.
     Refused,

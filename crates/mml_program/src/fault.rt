@@ -1,7 +1,7 @@
 //! Errors that end the program early: one line on standard error and a status.
 //!
-//! The place of an event is its number in the list of events, from 1. An audit checks whether a text is the journal of
-//! a run of a lab.
+//! The place of an event is its number in the list of events, from 1. An audit checks whether a text is the journal
+//! of a run of a lab. The journal is halted if a line couldn't be written to it.
 ghost use Rattle.std.specs.Prelude.{◌≡◌, ◌≢◌, ◌⊎◌, true, false};
 ghost use Rattle.std.specs.IoError.{error_kind};
 ghost use Rattle.mml_program.specs.declared.fault.Fault.TheVariants.{Memory};

@@ -2,9 +2,10 @@
 //!
 //! A lab describes a class: its network, its participants and its limits. The journal of a run has a line for each
 //! granted event, and a sink is the destination of its bytes. A sink is fresh if it has no bytes yet. The journal is
-//! halted if a line couldn't be written to it. A house is one run of a lab that threads share. A hall has the state of
-//! a run that answers a script. Values are dropped by calls of `drop` before a function returns, which keeps the proofs
-//! short.
+//! halted if a line couldn't be written to it. A house is one run of a lab that threads share. A hall has the state
+//! of a run that answers a script. An audit checks whether a text is the journal of a run of a lab. A configuration
+//! is a network with its registers. It is stable if no rule is enabled at any node. Values are dropped by calls of
+//! `drop` before a function returns, which keeps the proofs short.
 ghost use Rattle.std.specs.Prelude.{◌≡◌, ◌<◌, ◌≤◌, ◌-◌, ◌^◌, IfOk};
 ghost use Rattle.mml_journal.specs.Taken.{IsFresh};
 ghost use Rattle.mml_program.specs.Serving.{TellsServed};

@@ -126,8 +126,8 @@ pub fn command_line<'a>(
     Ok(command)
 }
 
-/// Returns the description `command` with one more subcommand. If there is an error in place of the subcommand, returns
-/// this error, and also if memory runs out.
+/// Returns the description `command` with one more subcommand. If `subcommand` is an error, returns this error. Also
+/// returns an error if memory runs out.
 fn with_subcommand<'a>(
     command: Command<'a>,
     subcommand: Result<Command<'a>, AllocError>,

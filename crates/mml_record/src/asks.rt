@@ -1,10 +1,10 @@
 //! What the lines of a record asked, which clauses denied them, and why they were refused.
 //!
 //! A record has entries: a line with its reply, a session's end, or a note that something is left out. An entry says
-//! how many events its session had seen. A participant is known on a connection from a granted hello to the bye.
-//! `known` is always a participant of the lab, or `None` if nobody is known. A clause is a condition for a request; a
-//! denial names the first that doesn't hold. A refusal has another reason, for example that memory ran out. A tally
-//! counts the lines of each student by these.
+//! how many events its session had seen. A seat is a part of the server that serves one connection after another. A
+//! participant is known on a connection from a granted hello to the bye. `known` is always a participant of the lab,
+//! or `None` if nobody is known. A clause is a condition for a request; a denial names the first that doesn't hold. A
+//! refusal has another reason, for example that memory ran out. A tally counts the lines of each student by these.
 ghost use Rattle.std.specs.Prelude.{◌≡◌, ◌++◌, List, ℕ, true, bytes_eq, IfOk, IfSome, OnOk};
 ghost use Rattle.mml_ids.specs.Lines.{ended};
 ghost use Rattle.mml_lab.specs.Rosters.{IsPrincipal};

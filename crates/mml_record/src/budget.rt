@@ -9,7 +9,7 @@ ghost use Rattle.mml_session.specs.Turns.{is_hello};
 use mml_codec::Reply;
 
 /// Whether the text of an entry may be written.
-#[derive(Clone, Copy, Debug, PartialEq, Eq, Drop)]
+#[derive(Clone, Copy, PartialEq, Eq, Drop)]
 pub enum Taking {
     /// The text may be written.
     Taken,

@@ -1,6 +1,7 @@
-//! Finds the members of a denial's text that name its clause and its name. The clause is the first member of the reply,
-//! or the second after `at`, and the name follows it. So a denial begins like `{"clause":1,"deny":"hidden"` or
-//! `{"at":7,"clause":2,"deny":"stale"`.
+//! Finds the members of a denial's text that name its clause and its name. A member is a key with its value. A clause
+//! is a condition for a request, and a denial names the first that doesn't hold. The clause is the first member of
+//! the reply, or the second after `at`, and the name follows it. So a denial begins like
+//! `{"clause":1,"deny":"hidden"` or `{"at":7,"clause":2,"deny":"stale"`.
 ghost use Rattle.std.specs.Prelude.{◌≡◌};
 ghost use Rattle.mml_journal.specs.Words.{seen};
 ghost use Rattle.mml_record.specs.DenialMembers.{after_comma, denial_members, from_clause, if_clause};

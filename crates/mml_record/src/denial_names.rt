@@ -1,6 +1,6 @@
-//! Finds the names of denials in the replies of a record, for those denials that a known student can get. In a reply
-//! the name follows the number of the clause, as in `"clause":1,"deny":"hidden"` (see `denial_members`). A member of a
-//! reply is a key with its value.
+//! Finds the names of denials in the replies of a record, for those denials that a known student can get. A student
+//! is known on a connection from a granted hello to the bye. In a reply the name follows the number of the clause, as
+//! in `"clause":1,"deny":"hidden"` (see `denial_members`). A member of a reply is a key with its value.
 ghost use Rattle.std.specs.Prelude.{◌≡◌};
 ghost use Rattle.mml_record.specs.DenialNames.{denial_word, denial_after, denial_told};
 

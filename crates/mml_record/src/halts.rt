@@ -12,7 +12,7 @@ ghost use Rattle.mml_record.specs.inside.Halting.{no_halts, with_halt, outlived_
 use crate::reading::RawEntry;
 
 /// What is kept of the refusals `journal` among the entries that were read.
-#[derive(Clone, Copy, Debug, PartialEq, Eq, Drop)]
+#[derive(Clone, Copy, PartialEq, Eq, Drop)]
 pub(crate) struct Halts {
     // How many events had been seen at the first refusal since the last entry which says that anything may be missing.
     first: Option<u64>,

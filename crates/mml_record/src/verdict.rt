@@ -1,11 +1,12 @@
 //! The verdict of the check of a record.
 //!
 //! A record has entries: a line with its reply, a session's end, or a note that something is left out. An entry says
-//! how many events its session had seen.
+//! how many events its session had seen. After a line couldn't be written to the journal, a server refuses with
+//! `journal` whatever it would grant.
 use mml_tally::Findings;
 
 /// The verdict on a text that should be a record.
-#[derive(Clone, Copy, Debug, Drop)]
+#[derive(Clone, Copy, Drop)]
 pub enum Verdict {
     /// The text is a record, with this summary.
     Passed(Findings),
@@ -18,7 +19,7 @@ pub enum Verdict {
 }
 
 /// The first bad entry of a text.
-#[derive(Clone, Copy, Debug, PartialEq, Eq, Drop)]
+#[derive(Clone, Copy, PartialEq, Eq, Drop)]
 pub struct BadEntry {
     /// How many bytes come before the entry. These bytes are the longest beginning of the text that is a record.
     pub front: u64,
@@ -31,7 +32,7 @@ pub struct BadEntry {
 }
 
 /// Why an entry is bad.
-#[derive(Clone, Copy, Debug, PartialEq, Eq, Drop)]
+#[derive(Clone, Copy, PartialEq, Eq, Drop)]
 pub enum Why {
     /// The text breaks off within the entry.
     Torn,

@@ -100,7 +100,8 @@ pub struct SeatBudget {
 }
 
 impl SeatBudget {
-    /// Returns the budget of a seat in which nobody is known yet.
+    /// Returns the budget of a seat in which nobody is known yet. `budgets` are those of the class, which all seats
+    /// share.
     pub fn new(budgets: Arc<Budgets, Global>) -> SeatBudget {
         SeatBudget {
             budgets,
@@ -199,9 +200,9 @@ impl Budget for SeatBudget {
         }
     }
 
-    // Returns whether the entry of a session's end, which has this many `bytes`, may be written, and charges it if so.
-    // The entries may then exceed `BUDGET` by up to `ENDS` bytes, so that ends are still written when other entries no
-    // longer are.
+    // Returns whether the entry of a session's end, which has this many `bytes`, may be written. If so, charges it to
+    // the participant who is known, or to the common counter. The entries may then exceed `BUDGET` by up to `ENDS`
+    // bytes, so that ends are still written when other entries no longer are.
     fn takes_end(&mut self, bytes: u64) -> bool {
         self.charge(bytes, BUDGET + ENDS)
     }

@@ -13,7 +13,7 @@ use std::alloc::Global;
 use std::marker::Model;
 
 /// The links and the registers of a network, listed by rank.
-#[derive(Debug, Drop)]
+#[derive(Drop)]
 pub struct Network {
     neighbours: Vec<NodeSet>,
     registers: Vec<Regs>,

@@ -2,7 +2,9 @@
 //!
 //! A window is one session's view of the published events and board. A seat is a connection with its window. A window
 //! is fresh if it has seen nothing and was granted nothing. A pledge is the contract of a thread's result, which the
-//! thread that joins it can rely on.
+//! thread that joins it can rely on. `setting` has what all sessions share: the runtime, the allocator, and the desk,
+//! which decides acts, the requests for events. `scope` is the scope of the threads: it ends only when all of them
+//! have ended.
 //!
 //! Values are dropped by calls of `drop` before a function returns, which keeps the proofs short.
 ghost use Rattle.std.specs.Prelude.{◌≡◌, ◌≢◌, ◌<◌, ◌≤◌, ◌+◌, [], ◌∷◌, All, IfOk, OnOk, length, map};

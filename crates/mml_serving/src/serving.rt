@@ -4,7 +4,8 @@
 //! A house is one run of a lab that threads share: its list of granted events, the board after them, and their journal.
 //! A window is one session's view of the published events and board. The type `H` is the name of a house, and only
 //! contracts use it. A sink is the destination of the journal's bytes. The place of an event is its number in the list
-//! of events, from 1. The log of a house is its result, with its events, board and sink.
+//! of events, from 1. The log of a house is its result, with its events, board and sink. The desk of a house has its
+//! events, board and journal under a lock.
 //!
 //! Values are dropped by calls of `drop` before a function returns, which keeps the proofs short.
 ghost use Rattle.std.specs.Prelude.{◌≡◌, ◌<◌, ◌≤◌, ◌+◌, ◌-◌, ◌^◌, ◌++◌, Err, None, true, false, length, IfOk, IfErr, OnOk};
@@ -43,7 +44,7 @@ pub struct ServedHouse<S: Drop, R: Drop, W: Drop> {
 }
 
 /// Why a server failed.
-#[derive(Clone, Copy, Debug, PartialEq, Eq)]
+#[derive(Clone, Copy, PartialEq, Eq)]
 pub enum ServeFault {
     /// Memory ran out, or no thread could be made.
     Memory,
@@ -62,8 +63,9 @@ pub enum ServeFault {
 
 /// Serves the next `connections` connections of a listener in a new house of the lab, whose journal goes to `sink`.
 /// There must be at least one connection, at most one for each session of the lab, and `sink` must be empty. `gate` can
-/// make sessions wait, for tests. After the sessions, writes the last line to `writer`. Returns why the server failed:
-/// this is `serve_house_on` without the result of the house.
+/// make sessions wait, for tests. After the sessions, writes the last line to `writer`. Returns `Ok(())`, or the
+/// reason why the server failed, with the same reasons as `serve_house_on`. That function also returns the result of
+/// the house.
 pub fn serve_on<Rt: Threads + Wait + Sync, S: Sink + Send + Drop, G: Gate + Sync, W: Write>(
     rt: &Rt,
     alloc: Global,

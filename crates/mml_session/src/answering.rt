@@ -1,9 +1,11 @@
 //! Answering a line: its reply, who is known afterwards, and what the window has seen then.
 //!
-//! A window is one session's view of the published events and board. It shows nothing any more once the house has
-//! ended. A command of a known account makes it read on. An account is known on a connection from its granted hello to
-//! its bye. A view is what a see, a look or a report shows; an act is a request for an event. A denial names the first
-//! condition of a request that doesn't hold; a refusal has another reason.
+//! A window is one session's view of the published events and board. It shows nothing any more once the house (the
+//! run of the lab that all sessions share) has ended. An account is known on a connection from its granted hello to
+//! its bye. When a command of a known account is answered, the window reads on. A view is what a see, a look or a
+//! report shows; an act is a request for an event. A denial names the first condition of a request that doesn't hold;
+//! a refusal has another reason. `setting` has what all sessions share: the runtime, the allocator, and the desk,
+//! which decides acts.
 ghost use Rattle.std.specs.Prelude.{◌≡◌, false, IfErr, IfSome, OnOk};
 ghost use Rattle.mml_lab.specs.Rosters.{IsPrincipal};
 ghost use Rattle.mml_policy.specs.declared.command.Command.TheVariants as command;

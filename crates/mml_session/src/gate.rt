@@ -2,7 +2,7 @@
 //!
 //! The number of a connection is the one with which `serve_one` serves it.
 /// A point at which a gate may pause a session.
-#[derive(Clone, Copy, Debug, PartialEq, Eq)]
+#[derive(Clone, Copy, PartialEq, Eq)]
 pub enum Point {
     /// A line was read, and isn't answered yet.
     Line,
@@ -18,7 +18,7 @@ pub trait Gate {
 }
 
 /// A gate that pauses no session.
-#[derive(Clone, Copy, Debug)]
+#[derive(Clone, Copy)]
 pub struct NoGate;
 
 impl Gate for NoGate {

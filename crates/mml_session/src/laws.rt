@@ -4,7 +4,8 @@
 //! and board. An account is known on a connection from its granted hello to its bye. A standing is who is known on a
 //! connection, and the state of the session's window. A turn is the reply to one line of a session, and the standing
 //! after it. A talk is the answered lines of one session, with their replies. The place of an event is its number in
-//! the list of events, from 1. A flush writes all replies that were buffered.
+//! the list of events, from 1. A flush writes all replies that were buffered. The journal is halted if a line
+//! couldn't be written to it.
 ghost use Rattle.std.specs.Prelude.{◌≡◌, ◌++◌, ◌+◌, ◌-◌, ℕ, List, Option, Some, flat_map, length};
 ghost use mathlib.Core.List.{IsPrefix};
 ghost use Rattle.mml_lab.specs.Labs.{LabValue};

@@ -41,7 +41,7 @@ pub trait Observer {
 }
 
 /// An observer that does nothing.
-#[derive(Clone, Copy, Debug)]
+#[derive(Clone, Copy)]
 pub struct NoObserver;
 
 impl Observer for NoObserver {

@@ -2,7 +2,8 @@
 //!
 //! A window is one session's view of the published events and board. An account is known on a connection from its
 //! granted hello to its bye. `connection` is the number with which the caller serves the session: that of the
-//! connection, or that of its seat.
+//! connection, or that of its seat. `setting` has what all sessions share: the runtime, the allocator, and the desk,
+//! which decides acts, the requests for events. `held` is the buffer of the replies that aren't written yet.
 ghost use Rattle.std.specs.Prelude.{◌≡◌, ◌<◌, ◌≤◌, [], None, IfOk, IfSome, IsTrue, length, vec_capacity};
 ghost use Rattle.std.specs.Io.KnownBytes.{prepend_known};
 ghost use Rattle.mml_lines.specs.LinesOf.{IsWithinLimit};
@@ -34,7 +35,7 @@ use std::io::{Read, Write};
 use std::sync::Wait;
 
 /// How a session ended.
-#[derive(Clone, Copy, Debug, PartialEq, Eq)]
+#[derive(Clone, Copy, PartialEq, Eq)]
 pub enum SessionEnd {
     /// The last reply was to a bye.
     Bye,
@@ -54,7 +55,7 @@ pub enum SessionEnd {
 
 /// How a session ended, and who had said hello in it, if anybody had. If the session ended by its last line (a bye, or
 /// a line whose reply couldn't be written), `who` is who was known before that line.
-#[derive(Clone, Copy, Debug, PartialEq, Eq)]
+#[derive(Clone, Copy, PartialEq, Eq)]
 pub struct Ending {
     pub end: SessionEnd,
     pub who: Option<Who>,
@@ -400,10 +401,10 @@ struct Judged<'a> {
     is_next_unknown: bool,
 }
 
-/// Calls the observer with a line and its reply, and writes the reply or buffers it. A short reply is built in the
-/// buffer. A long one is built in `out`; if memory runs out for it, the refusal `memory` is sent instead. `out` must
-/// have memory for `REPLY_ROOM` bytes, and the reply must be one of the window's lab. Returns what happened to the
-/// reply.
+/// Calls the observer with the line in `judged` and its reply, and writes the reply or buffers it in `held`. A short
+/// reply is built in this buffer. A long one is built in `out`; if memory runs out for it, the refusal `memory` is
+/// sent instead. `out` must have memory for `REPLY_ROOM` bytes, and the reply may name only nodes and participants of
+/// the window's lab. Returns what happened to the reply.
 fn tell<H: House, W: Write, O: Observer>(
     alloc: Global,
     window: &Window<H>,

@@ -5,7 +5,8 @@
 //! a free node is in no pair. A link is open if both its ends are free. Its witness is a privileged node that the
 //! report names for it. The rank of a node is its index in the rising order of identifiers. The pairs are a maximal
 //! matching if each link has an end that is in a pair. A configuration is lawful (`IsLawful`) if each link joins two
-//! different nodes in both directions, and pointers lead only to neighbours.
+//! different nodes in both directions, and pointers lead only to neighbours. A world is a network with its registers,
+//! its chosen moves, the number of its configuration, and the number of events so far.
 ghost use Rattle.std.specs.Prelude.{◌≡◌, ◌↔◌, ◌⊎◌, ℕ, ◌<◌, true, false, Some, Contains};
 ghost use Rattle.mml_rules.specs.declared.rule.Kind.{Kind};
 ghost use Rattle.mml_rules.specs.Configuration.{Configuration, IsLawful};

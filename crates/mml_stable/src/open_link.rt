@@ -6,7 +6,7 @@ use mml_rules::Kind;
 
 /// A link between two free nodes, the lower one first. The witness is a privileged node, which shows that the
 /// configuration isn't stable.
-#[derive(Clone, Copy, Debug)]
+#[derive(Clone, Copy)]
 pub struct OpenLink {
     pub a: Rank,
     pub b: Rank,

@@ -1,11 +1,11 @@
 //! Making a report.
 //!
-//! A node is privileged if some rule is enabled there. A free node is in no pair of nodes that point at each other. A
-//! link is open if both its ends are free. The witness of an open link is a privileged node that the report names for
-//! it. The kind of a rule is the rule without the partner that a marriage names. The rank of a node is its index in the
-//! rising order of identifiers. A configuration is lawful if each link joins two different nodes in both directions,
-//! and pointers lead only to neighbours. A world is lawful if its configuration is, and the guards of all chosen moves
-//! hold.
+//! A node is privileged if some rule is enabled there. A board is the state of a run after some events. A free node
+//! is in no pair of nodes that point at each other. A link is open if both its ends are free. The witness of an open
+//! link is a privileged node that the report names for it. The kind of a rule is the rule without the partner that a
+//! marriage names. The rank of a node is its index in the rising order of identifiers. A configuration is lawful if
+//! each link joins two different nodes in both directions, and pointers lead only to neighbours. A world is lawful if
+//! its configuration is, and the guards of all chosen moves hold.
 ghost use Rattle.std.specs.Prelude.{◌≡◌, ℕ, ◌<◌, ◌++◌, length, true, IfOk, OnOk};
 ghost use Rattle.std.specs.FinSet as set;
 ghost use Rattle.mml_ids.specs.Sets.{those_below};

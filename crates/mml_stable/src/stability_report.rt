@@ -4,7 +4,7 @@ use mml_rules::Kind;
 
 /// The report on a configuration. Each list is in rising order. A node is privileged if some rule is enabled there. A
 /// pair is two nodes that point at each other, a free node is in no pair, and a link is open if both its ends are free.
-#[derive(Debug, Drop)]
+#[derive(Drop)]
 pub struct Report {
     /// The number of the configuration.
     pub at: u64,

@@ -17,7 +17,7 @@ use std::alloc::Global;
 use std::slice;
 
 /// A line of a client that was answered, as far as the tally counts it.
-#[derive(Clone, Copy, Debug)]
+#[derive(Clone, Copy)]
 pub struct Ask {
     /// The student who was known when the line came, if one was.
     pub who: Option<Student>,
@@ -32,7 +32,7 @@ pub struct Ask {
 }
 
 /// What a line asks, as far as the tally distinguishes lines.
-#[derive(Clone, Copy, Debug, PartialEq, Eq)]
+#[derive(Clone, Copy, PartialEq, Eq)]
 pub enum Line {
     /// A line that isn't a request.
     Malformed,
@@ -44,7 +44,7 @@ pub enum Line {
 
 /// How many lines each clause denied, from the first to the fourth, and how many lines weren't requests. A clause is a
 /// condition for a request; a denial names the first that doesn't hold.
-#[derive(Clone, Copy, Debug, PartialEq, Eq)]
+#[derive(Clone, Copy, PartialEq, Eq)]
 pub struct Denials {
     pub first: u64,
     pub second: u64,

@@ -1,9 +1,9 @@
 //! The most moves, rounds and events that may still come in a run.
 //!
-//! A node is privileged if some rule is enabled there. A grant chooses a move for a node, a release drops it, and a
-//! close applies all chosen moves at once. A fault sets a node's registers, a link joins two nodes, and a cut removes a
-//! link. The registers of a node are its pointer p and m, which is true or false. A node is married if it and another
-//! node point at each other.
+//! A node is privileged if some rule is enabled there. A board is the state of a run after some events. A grant
+//! chooses a move for a node, a release drops it, and a close applies all chosen moves at once. A fault sets a node's
+//! registers, a link joins two nodes, and a cut removes a link. The registers of a node are its pointer p and m,
+//! which is true or false. A node is married if it and another node point at each other.
 ghost use Rattle.std.specs.Prelude.{◌≡◌, ◌≤◌};
 ghost use Rattle.mml_ids.specs.declared.TheConstants.{MAX_NODES};
 ghost use Rattle.mml_convergence.specs.Rounds.{rounds_for};
@@ -16,7 +16,7 @@ use mml_rules::Scene;
 
 /// The most moves, rounds and events of a run in which no fault, link or cut comes. A round is a list of events in
 /// which each node has its turn: at some point it isn't privileged, or a close applies its move.
-#[derive(Clone, Copy, Debug, PartialEq, Eq)]
+#[derive(Clone, Copy, PartialEq, Eq)]
 pub struct Bounds {
     /// The moves that closes apply.
     pub moves: u64,

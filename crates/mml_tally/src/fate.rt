@@ -11,7 +11,7 @@ use mml_ids::Rank;
 
 /// What happens to a granted move. The next close applies it, unless a release, a fault, a link or a cut drops it
 /// before.
-#[derive(Clone, Copy, Debug, PartialEq, Eq)]
+#[derive(Clone, Copy, PartialEq, Eq)]
 pub enum Fate {
     /// The close at this place applies the move.
     Applied(u64),

@@ -14,7 +14,7 @@ use mml_rules::{Kind, kind_of};
 use std::alloc::Global;
 
 /// A move that was granted, and what happened to it.
-#[derive(Clone, Copy, Debug)]
+#[derive(Clone, Copy)]
 pub struct Move {
     /// The place of the move's grant.
     pub place: u64,

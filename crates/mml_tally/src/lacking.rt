@@ -3,6 +3,7 @@
 //! A participant is known on a connection from a granted hello to the bye. Lines of a participant may be missing if
 //! recording paused while the participant was known. Lines of every participant may be missing if an entry of the
 //! record says so. A record has the lines of sessions with their replies. Recording pauses when a budget is used up.
+//! The findings of a record are its summary.
 ghost use Rattle.std.specs.Prelude.{◌≡◌, ◌++◌, length, OnOk};
 ghost use Rattle.mml_lab.specs.Rosters.{IsPrincipal};
 ghost use Rattle.mml_tally.specs.Lacking.{IsCounted, lacks, has_all_of, whole_name, whole_names, recorded_line};

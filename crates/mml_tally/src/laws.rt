@@ -3,9 +3,10 @@
 //! A grant chooses a move for a node, a release drops it, and a close applies all chosen moves at once. A fault sets a
 //! node's registers, a link joins two nodes, and a cut removes a link. A granted move is applied by the next close,
 //! unless a release, a fault, a link or a cut drops it before. A mark is what the tally counts for a student. The place
-//! of an event is its number in the list of events, from 1. A node is privileged if some rule is enabled there. A list
-//! of events is legal if the rules allow each event after the earlier ones. `IsLab` and `IsWorld` say that a lab and a
-//! world are valid.
+//! of an event is its number in the list of events, from 1. A node is privileged if some rule is enabled there. A
+//! round is a list of events in which each node has its turn: at some point it isn't privileged, or a close applies
+//! its move. A clause is a condition for a request. A list of events is legal if the rules allow each event after the
+//! earlier ones. `IsLab` and `IsWorld` say that a lab and a world are valid.
 ghost use Rattle.std.specs.Prelude.{◌≡◌, ◌↔◌, ◌≤◌, ◌+◌, ℕ, true, List, length, map, count_by};
 ghost use Rattle.std.specs.List.{list_all};
 ghost use Rattle.mml_rules.specs.Matching.{IsStable};

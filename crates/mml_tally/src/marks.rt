@@ -20,7 +20,7 @@ use mml_rules::Kind;
 use std::alloc::Global;
 
 /// The number of moves of each rule.
-#[derive(Clone, Copy, Debug, PartialEq, Eq)]
+#[derive(Clone, Copy, PartialEq, Eq)]
 pub struct ByRule {
     pub update: u64,
     pub marriage: u64,
@@ -30,7 +30,7 @@ pub struct ByRule {
 
 /// What the tally counts of one student's moves in a run. A granted move is applied by the next close, unless it is
 /// dropped before.
-#[derive(Clone, Copy, Debug, PartialEq, Eq)]
+#[derive(Clone, Copy, PartialEq, Eq)]
 pub struct Marks {
     /// The moves that were granted.
     pub granted: ByRule,

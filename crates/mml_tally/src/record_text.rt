@@ -19,7 +19,7 @@ use mml_lab::{Lab, Roster, Student, Who};
 use std::alloc::Global;
 
 /// The summary of a record, without its single lines.
-#[derive(Clone, Copy, Debug, Drop)]
+#[derive(Clone, Copy, Drop)]
 pub struct Findings {
     /// The number of sessions that ended.
     pub sessions: u64,

@@ -14,7 +14,7 @@ use mml_policy::Refusal;
 use std::alloc::Global;
 
 /// How many lines were refused for each reason.
-#[derive(Clone, Copy, Debug, PartialEq, Eq)]
+#[derive(Clone, Copy, PartialEq, Eq)]
 pub struct Refusals {
     pub journal: u64,
     pub memory: u64,

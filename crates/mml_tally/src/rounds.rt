@@ -2,7 +2,8 @@
 //!
 //! A node is privileged if some rule is enabled there. A round is a list of events in which each node has its turn: at
 //! some point it isn't privileged, or a close applies its move. A list of events is legal if each event is allowed
-//! after the earlier ones.
+//! after the earlier ones. The place of an event is its number in the list of events, from 1. A board is the state of
+//! a run after some events.
 ghost use Rattle.std.specs.Prelude.{◌≡◌, ◌≤◌, ◌++◌, true, length, take, IfOk, OnOk};
 ghost use Rattle.mml_board.specs.World.{opening_of};
 ghost use Rattle.mml_board.specs.Events.{can_absorb, after};

@@ -16,7 +16,7 @@ use mml_board::Event;
 
 /// What the tally counts of a run as a whole. A close applies the chosen moves. A fault sets registers, a link joins
 /// two nodes, and a cut removes a link.
-#[derive(Clone, Copy, Debug, PartialEq, Eq)]
+#[derive(Clone, Copy, PartialEq, Eq)]
 pub struct Run {
     pub closes: u64,
     pub faults: u64,

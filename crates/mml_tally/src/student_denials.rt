@@ -13,7 +13,7 @@ use mml_lab::{Lab, Student, Who};
 use std::alloc::Global;
 
 /// A denial that a student can get after a granted hello. Each has its own name in the reply.
-#[derive(Clone, Copy, Debug, PartialEq, Eq)]
+#[derive(Clone, Copy, PartialEq, Eq)]
 pub enum StudentDenial {
     /// The connection has a name already.
     Greeted,
@@ -32,7 +32,7 @@ pub enum StudentDenial {
 }
 
 /// How many lines got each of these denials.
-#[derive(Clone, Copy, Debug, PartialEq, Eq)]
+#[derive(Clone, Copy, PartialEq, Eq)]
 pub struct NamedDenials {
     pub greeted: u64,
     pub hidden: u64,

@@ -2,8 +2,10 @@
 //!
 //! A grant chooses a move for a node, a release drops it, and a close applies all chosen moves at once. A fault sets a
 //! node's registers, a link joins two nodes, and a cut removes a link. The place of an event is its number in the list
-//! of events, from 1. A node is privileged if some rule is enabled there. Some functions get the granted moves as
-//! `all`, without the events that grant them. Their contracts hold for any list `es` of events that grants these moves.
+//! of events, from 1. A node is privileged if some rule is enabled there. A round is a list of events in which each
+//! node has its turn: at some point it isn't privileged, or a close applies its move. Some functions get the granted
+//! moves as `all`, without the events that grant them. Their contracts hold for any list `es` of events that grants
+//! these moves.
 ghost use Rattle.std.specs.Prelude.{◌≡◌, ◌<◌, ◌==◌, [], ◌∷◌, ◌++◌, All, List, length, OnOk};
 ghost use Rattle.mml_lab.specs.declared.who.Who.TheVariants.{Student as AStudent};
 ghost use Rattle.mml_lab.specs.Rosters.{name_of};

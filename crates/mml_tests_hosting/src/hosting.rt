@@ -1,5 +1,6 @@
-//! Tests of a house that serves one connection after another at two ports: the desk's and the students'. The teacher's
-//! bye at the desk ends the house.
+//! Tests of a house that serves one connection after another at two ports: the desk's and the students'. The
+//! teacher's bye at the desk ends the house. An error (`Fail`) means that memory ran out, or that a house which
+//! should end well ended with a fault.
 //!
 //! A house is one run of a lab that threads share. A close is an event that applies all chosen moves. An assertion
 //! inside a loop would need a loop invariant, so loops are in functions whose result a test asserts. A talk is one

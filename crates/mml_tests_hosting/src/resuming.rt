@@ -1,8 +1,8 @@
 //! Tests of classes that are resumed from a journal, or refused.
 //!
 //! The host has two ports: the desk, which is the teacher's, and the students' port. A sink is the destination of the
-//! journal's bytes, and a store returns the sink that appends to an old journal. Each function that returns a `Fail`
-//! does so if memory runs out.
+//! journal's bytes, and a store returns the sink that appends to an old journal. A line is torn if its end is
+//! missing. Each function that returns a `Fail` does so if memory runs out.
 ghost use Rattle.std.specs.Prelude.{◌≡◌, ◌<◌, ◌-◌, ◌^◌, IfSome};
 
 use crate::texts::{Count, Left, TextClass, Texts, Timed, cycle_of_six, sent_to};

@@ -131,7 +131,7 @@ impl<'a> Texts<'a> {
     }
 }
 
-/// Returns the two ends of a connection that sends this text: the bytes to read, and a writer with the connection's
+/// Returns the two ends of the connection `timed`: the bytes to read, which are its text, and a writer with its
 /// number, which stores what it gets. Returns an error if memory runs out.
 fn ends_of(alloc: Global, timed: &Timed<'_>) -> Result<TextEnds, AllocError> {
     let mut bytes = VecDeque::new(alloc);

@@ -1,9 +1,10 @@
 //! Tests of a board and its copy at the beginning of a run and after each event, even an illegal one. The tests also
 //! cover a look, and a line of the journal. An error means that memory ran out.
 //!
-//! The first board of a lab is the one at the beginning of a run. The path of three is the lab of nodes 1, 2 and 3 in a
-//! row. The rank of a node is its index in the rising order of identifiers. A function that owns few large values, such
-//! as labs and boards, has a short proof, so many functions only make one and pass it on.
+//! A board is the state of a run after some events. The first board of a lab is the one at the beginning of a run. A
+//! node is privileged if some rule is enabled there. The path of three is the lab of nodes 1, 2 and 3 in a row. The
+//! rank of a node is its index in the rising order of identifiers. A function that owns few large values, such as
+//! labs and boards, has a short proof, so many functions only make one and pass it on.
 ghost use Rattle.std.specs.Prelude.{◌<◌, length};
 
 use mml_board::{Board, Event};

@@ -3,9 +3,9 @@
 //! memory ran out.
 //!
 //! The first board of a lab is the one at the beginning of a run. The first student, ana, owns the first half of a
-//! cycle's nodes, and the second student the others. Sums saturate or wrap, since a plain sum needs a proof that it
-//! doesn't overflow. A function that owns few large values, such as labs and boards, has a short proof, so some
-//! functions only make one and pass it on.
+//! cycle's nodes, and the second student the others. `numbers` is the source of the pseudo-random numbers. Sums
+//! saturate or wrap, since a plain sum needs a proof that it doesn't overflow. A function that owns few large values,
+//! such as labs and boards, has a short proof, so some functions only make one and pass it on.
 use mml_board::{Board, Event};
 use mml_fakes::Numbers;
 use mml_fakes::cycles::cycle;
@@ -85,8 +85,9 @@ fn enabled_rule(board: &Board, node: Rank, partner: Rank) -> Rule {
     }
 }
 
-/// Returns the event of a move at a node by the rule that `enabled_rule` returns. The event's student, ana or the
-/// second one, owns the node, except in one of eight cases on average. The event may be illegal.
+/// Returns the event of a move at a node by the rule that `enabled_rule` returns; `partner` is the partner if this is
+/// a marriage. The event's student, ana or the second one, owns the node, except in one of eight cases on average.
+/// The event may be illegal.
 fn grant(board: &Board, numbers: &mut Numbers, node: Rank, partner: Rank) -> Event {
     let is_ana = (node.index() < board.size() / 2) != (numbers.below(8) == 0);
     Event::Grant {

@@ -1,5 +1,5 @@
 //! Tests of identifiers, ranks, and pieces of text. An error means that memory ran out, or says why a table can't be
-//! made.
+//! made. The rank of a node is its index in the rising order of identifiers.
 use mml_ids::{
     IdFault, IdTable, Items, MAX_NODES, Memory, NodeId, Piece, Rank, Word, make_room, put,
 };

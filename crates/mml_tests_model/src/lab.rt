@@ -1,5 +1,5 @@
-//! Tests that compare a lab file with the lab that is read from it. An error means that memory ran out, or is that of a
-//! lab file.
+//! Tests that compare a lab file with the lab that is read from it. An error means that memory ran out, or is that of
+//! a lab file. The rank of a node is its index in the rising order of identifiers.
 //!
 //! A function that owns few large values, such as labs, has a short proof, so some functions only make one and pass it
 //! on.

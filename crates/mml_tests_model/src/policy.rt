@@ -1,9 +1,10 @@
 //! Tests of the ruling on a command if the limit of events is reached, or the journal is halted. An error means that
 //! memory ran out.
 //!
-//! A ruling is what the policy decides about a command. The first board of a lab is the one at the beginning of a run.
-//! The path of three is the lab of nodes 1, 2 and 3 in a row; ana owns node 1. A function that owns few large values,
-//! such as labs and boards, has a short proof, so some functions only make one and pass it on.
+//! A ruling is what the policy decides about a command. A board is the state of a run after some events. The first
+//! board of a lab is the one at the beginning of a run. The path of three is the lab of nodes 1, 2 and 3 in a row;
+//! ana owns node 1. A function that owns few large values, such as labs and boards, has a short proof, so some
+//! functions only make one and pass it on.
 use mml_board::Board;
 use mml_fakes::labs::{PATH_OF_THREE, boxed_board, boxed_lab};
 use mml_ids::{Memory, Rank};

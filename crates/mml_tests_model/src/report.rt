@@ -1,8 +1,9 @@
 //! A test of the report. An error means that memory ran out, or is that of a lab file.
 //!
-//! The rank of a node is its index in the rising order of identifiers. A node is privileged if some rule is enabled
-//! there. The witness of an open link is a privileged node that the report names for it. A function that owns few large
-//! values, such as labs and boards, has a short proof, so some functions only make one and pass it on.
+//! The rank of a node is its index in the rising order of identifiers. A board is the state of a run after some
+//! events. A node is privileged if some rule is enabled there. The witness of an open link is a privileged node that
+//! the report names for it. A function that owns few large values, such as labs and boards, has a short proof, so
+//! some functions only make one and pass it on.
 use mml_board::Board;
 use mml_fakes::labs::{boxed_board, boxed_lab};
 use mml_ids::Rank;

@@ -1,10 +1,12 @@
-//! Tests of a house over a sink that stores one byte in each put, and fails after each possible number of bytes.
+//! Tests of a house over a sink that stores one byte in each put, and fails after each possible number of bytes. An
+//! error (`Fail`) means that memory ran out.
 //!
 //! An act is a request for an event. The place of an event is its number in the list of events, from 1. The ten acts
 //! are those of a stored run over the path of three: nodes 1, 2 and 3 in a row. A house is one run of a lab that
-//! threads share. A visit is what a test does through two windows of a house. The type `H` is the name of a house, and
-//! only contracts use it. A sink is the destination of the journal's bytes, and a put is a write to it. An assertion
-//! inside a loop would need a loop invariant, so loops are in functions whose result a test asserts.
+//! threads share. A window is one session's view of the published events. The journal is halted if a line couldn't be
+//! written to it. A visit is what a test does through two windows of a house. The type `H` is the name of a house,
+//! and only contracts use it. A sink is the destination of the journal's bytes, and a put is a write to it. An
+//! assertion inside a loop would need a loop invariant, so loops are in functions whose result a test asserts.
 use mml_fakes::scripts::{TEN_LINES, ended_lines};
 use mml_fakes::ten_acts::{ACTS, act, asker, number_before};
 use mml_fakes::{Drip, Ending, Pair, Visit, WindowAtDesk, ending_of, visit_path};

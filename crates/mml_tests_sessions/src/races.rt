@@ -1,5 +1,6 @@
 //! Tests of sessions in threads of their own, which wait for each other at lines and replies. The sessions read byte by
-//! byte, so that each reply is written before the next line is read.
+//! byte, so that each reply is written before the next line is read. An error (`Fail`) means that memory ran out, or
+//! that a race has more connections than the lab has sessions.
 //!
 //! A house is one run of a lab that threads share. A gate is a point at which tests can stop a session. A close is an
 //! event that applies all chosen moves. A sink is the destination of the journal's bytes, and is fresh if it has none

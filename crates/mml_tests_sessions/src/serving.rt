@@ -1,5 +1,6 @@
 //! A test of connections over sockets of this machine, which are numbered as they come: a gate sees their numbers. The
-//! clients connect and send before the server accepts, so the system buffers what they send and get.
+//! clients connect and send before the server accepts, so the system buffers what they send and get. An error means
+//! that the system refused a call, or memory ran out.
 //!
 //! A gate is a point at which tests can stop a session.
 use mml_fakes::labs::PATH_OF_THREE;

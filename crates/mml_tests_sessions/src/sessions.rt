@@ -1,9 +1,10 @@
-//! Tests of one session: how it ends if its reader or its writer fails, and which events have happened then.
+//! Tests of one session: how it ends if its reader or its writer fails, and which events have happened then. An error
+//! (`Fail`) means that memory ran out, or a house had fewer than two windows.
 //!
-//! A house is one run of a lab that threads share. A visit is what a test does through two windows of a house. The type
-//! `H` is the name of a house, and only contracts use it. The path of three is the lab of nodes 1, 2 and 3 in a row. A
-//! close is an event that applies all chosen moves. An assertion inside a loop would need a loop invariant, so loops
-//! are in functions whose result a test asserts.
+//! A house is one run of a lab that threads share. A window is one session's view of the published events. A visit is
+//! what a test does through two windows of a house. The type `H` is the name of a house, and only contracts use it.
+//! The path of three is the lab of nodes 1, 2 and 3 in a row. A close is an event that applies all chosen moves. An
+//! assertion inside a loop would need a loop invariant, so loops are in functions whose result a test asserts.
 use mml_fakes::scripts::{ANA_GRANTED, ANA_MOVES, ANA_WELCOME};
 use mml_fakes::{
     Ending, FakeReader, FakeWriter, Pair, Visit, ending_of, is_first_close, line, lines, visit_path,

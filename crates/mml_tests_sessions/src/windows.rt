@@ -1,4 +1,5 @@
-//! Tests of the windows of one house in one thread, also if some are missing at its end.
+//! Tests of the windows of one house in one thread, also if some are missing at its end. An error (`Fail` or
+//! `Memory`) means that memory ran out.
 //!
 //! A house is one run of a lab that threads share. A window is one session's view of the published events. A visit is
 //! what a test does through two windows of a house. The type `H` is the name of a house, and only contracts use it. The

@@ -1,4 +1,5 @@
-//! Tests of requests and replies as lines. An error (`Fail`) means that memory ran out.
+//! Tests of requests and replies as lines. An error (`Fail`) means that memory ran out. `scratch` is the memory with
+//! which lines are read.
 mod replies;
 
 use mml_codec::{LineFault, Request, read_request, read_request_with, write_request};

@@ -6,7 +6,7 @@ use mml_board::Done;
 use mml_policy::{Denial, Refusal};
 
 /// The answer to an act.
-#[derive(Clone, Copy, Debug)]
+#[derive(Clone, Copy)]
 pub enum Answer {
     /// The act happened as an event with this place and the effect `done`. `number` is the number of the configuration
     /// after the event.

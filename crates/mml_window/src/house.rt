@@ -1,9 +1,9 @@
 //! The name of a house for contracts, and the parts by which it publishes.
 //!
 //! A house is one run of a lab that threads share: its list of granted events, the board after them, and their journal.
-//! A window is one session's view of the published events and board. A ledger is a count that only contracts can read:
-//! a total, and shares whose amounts add up to it. It takes no bytes. A share consists of parts: a ledger has a fixed
-//! number of them.
+//! A window is one session's view of the published events and board. A board is the state of a run after some events.
+//! A ledger is a count that only contracts can read: a total, and shares whose amounts add up to it. It takes no
+//! bytes. A share consists of parts: a ledger has a fixed number of them.
 use crate::published::Published;
 use crate::seeing::{Publishing, View};
 use left_right::reader::{Reader, Reading};

@@ -1,9 +1,9 @@
 //! How a window's reader reads the published data.
 //!
 //! A house is one run of a lab that threads share: its list of granted events, the board after them, and their journal.
-//! A window is one session's view of the published events and board. The writer of the published data, `press`, has two
-//! copies of it, and slots for readers. A reader enters the copy that the writer doesn't change, reads it, and leaves
-//! it afterwards. The writer is gone once the house has ended.
+//! A window is one session's view of the published events and board. A board is the state of a run after some events.
+//! The writer of the published data, `press`, has two copies of it, and slots for readers. A reader enters the copy
+//! that the writer doesn't change, reads it, and leaves it afterwards. The writer is gone once the house has ended.
 ghost use Rattle.std.specs.Prelude.{◌≡◌, true, length, IfSome, IfNone};
 ghost use Rattle.std.specs.Fn.{FnReturnsAt};
 ghost use Rattle.left_right.specs.Sides.{view};

@@ -6,11 +6,11 @@
 use mml_policy::Denial;
 
 /// The error of a window that can't read: its house has ended, or it has no reader's slot.
-#[derive(Clone, Copy, Debug, PartialEq, Eq)]
+#[derive(Clone, Copy, PartialEq, Eq)]
 pub struct Closed;
 
 /// Why a view shows nothing.
-#[derive(Clone, Copy, Debug, PartialEq, Eq)]
+#[derive(Clone, Copy, PartialEq, Eq)]
 pub enum SightFault {
     /// A clause doesn't hold.
     Denied(Denial),

@@ -1,10 +1,11 @@
 //! The check that the windows were granted all places (event numbers) above a given one, each once; and what their
 //! shares of the house's ledgers are together.
 //!
-//! A window is one session's view of the published events and board. There are at most as many windows as a lab may
-//! have sessions. The place of an event is its number in the list of events, from 1. A window keeps the places of the
-//! events that its session was granted. A place is counted off when it is found as the next one of a window. A ledger
-//! is a count that only contracts can read: a total, and shares whose amounts add up to it. It takes no bytes.
+//! A house is one run of a lab that threads share. A window is one session's view of the published events and board.
+//! There are at most as many windows as a lab may have sessions. The place of an event is its number in the list of
+//! events, from 1. A window keeps the places of the events that its session was granted. A place is counted off when
+//! it is found as the next one of a window. A ledger is a count that only contracts can read: a total, and shares
+//! whose amounts add up to it. It takes no bytes.
 //!
 //! The loops run over indices, since their invariants speak of the windows before an index.
 ghost use Rattle.std.specs.Prelude.{◌≡◌, ℕ, ◌+◌, ◌<◌, ◌≤◌, [], ◌∷◌, length, All, MatchBool, MatchOption};

@@ -1,11 +1,12 @@
 //! Windows: the part of a house that belongs to each session.
 //!
 //! A house is one run of a lab that threads share: its list of granted events, the board after them, and their journal.
-//! Its writer, `press`, publishes the events and the board. The writer has slots, and a window needs one to read. A
-//! window is one session's view of the published events and board. The place of an event is its number in the list of
-//! events, from 1. An act is a request for an event. The journal is halted if a line couldn't be written to it. A
-//! ledger is a count that only contracts can read: a total, and shares whose amounts add up to it. It takes no bytes. A
-//! clause `nodes` says that a result names only nodes of the lab.
+//! Its writer, `press`, publishes the events and the board. A board is the state of a run after some events. The
+//! writer has slots, and a window needs one to read. A window is one session's view of the published events and
+//! board. The place of an event is its number in the list of events, from 1. An act is a request for an event. The
+//! journal is halted if a line couldn't be written to it. A ledger is a count that only contracts can read: a total,
+//! and shares whose amounts add up to it. It takes no bytes. A clause `nodes` says that a result names only nodes of
+//! the lab.
 ghost use Rattle.std.specs.Prelude.{◌≡◌, ◌≢◌, ℕ, ◌+◌, ◌-◌, ◌<◌, ◌≤◌, ◌++◌, ◌∷◌, [], length, drop, vec_capacity, IfOk, IfErr, IsTrue, IsFalse, MatchBool};
 ghost use mathlib.Core.List.{IsPrefix};
 ghost use Rattle.std.specs.Arc.{arc_value};
@@ -283,8 +284,8 @@ impl<H: House> Window<H> {
     }
 
     /// Counts one more act of the window's session that was refused because the journal was halted. `halts` is the
-    /// house's total of such acts. `spare` is how many more events the lab allows, at least after what the window has
-    /// seen. It is added to `spares`, the house's sum over such acts.
+    /// house's total of such acts. `spare` is added to `spares`, the house's sum over such acts. It must be at least
+    /// how many more events the lab allows after those that the window has seen.
     pub(crate) fn count_halt(
         &mut self,
         halts: &mut HaltCount<H>,

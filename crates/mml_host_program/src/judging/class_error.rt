@@ -11,7 +11,6 @@ use mml_class::{ClassFault, SeatFault};
 use mml_program::{Fault as ProgramFault, memory_if_lacked};
 
 /// Why the result of checking a class wasn't written, or only in part.
-#[derive(Debug)]
 pub enum ClassError {
     /// The journal doesn't pass the audit.
     Audit(AuditFault),

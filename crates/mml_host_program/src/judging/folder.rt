@@ -1,7 +1,8 @@
 //! The folder of a record, from which the check of a class reads.
 //!
-//! The folder has a file for each seat, and the file `begun` with the number of events before the record. A plain file
-//! is one that isn't a folder, a pipe or a device.
+//! The record of a class has the lines of its connections and the replies. A seat is a part of the server that serves
+//! one connection after another. The folder has a file for each seat, and the file `begun` with the number of events
+//! before the record. A plain file is one that isn't a folder, a pipe or a device.
 ghost use Rattle.std.specs.Prelude.{◌≡◌, ◌≢◌, ◌++◌, codes, decimal, string_bytes, IfOk};
 ghost use Rattle.std.specs.IoError.{error_kind};
 

@@ -3,8 +3,9 @@
 //! The record of a class has a text for each seat, with the lines that were answered there and their replies. A seat
 //! served one connection after another. The journal has a line for each granted event, and an audit checks it. In
 //! contracts, `start` is the text with the number of events before the record, and `texts` has the text of each seat.
-//! The findings of a record are its summary. A board is the state of a run after some events. If `is_tallied` is set,
-//! the tally of journal and record is written, and otherwise the summary.
+//! `seats` is the source from which these texts are read. The findings of a record are its summary. A board is the
+//! state of a run after some events. If `is_tallied` is set, the tally of journal and record is written, and
+//! otherwise the summary.
 ghost use Rattle.std.specs.Prelude.{◌≡◌, ◌++◌, ℕ, List, true, IfErr, IfOk, OnOk};
 ghost use Rattle.mml_board.specs.Lists.{is_legal_in, world_in};
 ghost use Rattle.mml_audit.specs.AuditMeaning.{IsJournalOf};

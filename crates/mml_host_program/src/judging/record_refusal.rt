@@ -1,7 +1,9 @@
 //! Why a record is refused.
 //!
-//! The record of a class has a text for each seat. An entry has a line and its reply, a session's end, or a note that
-//! something is left out. The place of an event is its number in the list of events, from 1.
+//! The record of a class has a text for each seat. A seat is a part of the server that serves one connection after
+//! another. After a line couldn't be written to the journal, a server refuses with `journal` whatever it would grant.
+//! An entry has a line and its reply, a session's end, or a note that something is left out. The place of an event is
+//! its number in the list of events, from 1.
 ghost use Rattle.mml_host_program.specs.Refusals.{IsOfEntry, IsOfPlace};
 
 use mml_class::Misgranted;

@@ -4,7 +4,8 @@
 //! A class is a house whose connections come and go. A seat serves one connection after another. Each of them asks
 //! through the seat's window, which is a view of the published events and board. A seat's recorder writes the record of
 //! the seat: the lines of its sessions, with their replies. A record fits a list of events if the rules give its
-//! replies after those events. The log of a house is its result, with all its events.
+//! replies after those events. The log of a house is its result, with all its events. After a line couldn't be
+//! written to the journal, a server refuses with `journal` whatever it would grant.
 ghost use Rattle.std.specs.Prelude.{◌≡◌, ◌<◌, ◌≤◌, ◌++◌, ℕ, List, length, Option, Some};
 ghost use Rattle.std.specs.List.{AllByRecursion, AllZip};
 ghost use Rattle.mml_lab.specs.Labs.{LabValue};

@@ -1,7 +1,8 @@
 //! The words of the protocol. Each law is the contract of a function that does nothing.
 //!
 //! A clause is a condition under which a request is granted; a denial names the first that doesn't hold. A refusal is a
-//! reply that has another reason, for example that memory ran out.
+//! reply that has another reason, for example that memory ran out. A node is privileged if some rule is enabled
+//! there.
 ghost use Rattle.std.specs.Prelude.{◌≡◌, ◌↔◌, ◌∷◌, [], ℕ, false, List, Some, codes};
 ghost use Rattle.std.specs.List.{list_any, AllByRecursion};
 ghost use Rattle.serde_json.specs.Data.{Data};

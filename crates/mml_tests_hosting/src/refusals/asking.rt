@@ -1,10 +1,12 @@
-//! Tests that ask for the acts of a stored run through a window, while one request for memory after another is refused.
+//! Tests that ask for the acts of a stored run through a window, while one request for memory after another is
+//! refused. An error (`Fail`) means that a house couldn't be opened for lack of memory.
 //!
 //! An act is a request for an event. The place of an event is its number in the list of events, from 1. The stored run
 //! has ten acts, over the path of three: nodes 1, 2 and 3 in a row. A house is one run of a lab that threads share. A
-//! visit is what a test does through two windows of a house. The type `H` is the name of a house, and only contracts
-//! use it. The parameter `is_there` of a function says whether the library that refuses requests is loaded. An
-//! assertion inside a loop would need a loop invariant, so loops are in functions whose result a test asserts.
+//! window is one session's view of the published events. A visit is what a test does through two windows of a house.
+//! The type `H` is the name of a house, and only contracts use it. The parameter `is_there` of a function says
+//! whether the library that refuses requests is loaded. An assertion inside a loop would need a loop invariant, so
+//! loops are in functions whose result a test asserts.
 use super::MOST;
 use super::library::{is_there, refuse, was_none_refused};
 use mml_fakes::ten_acts::{ACTS, act, asker, number_before};
@@ -118,9 +120,9 @@ impl Visit<NullSink> for FirstThenSecond {
     }
 }
 
-/// Makes the visit `FirstThenSecond` in a new house over the path of three. Returns whether the first act was granted;
-/// `false` if it was refused for memory. Returns `None` if an act was answered wrongly, or the house didn't end with
-/// exactly the granted acts.
+/// Makes the visit `FirstThenSecond` in a new house over the path of three: the nth request for memory of its first
+/// act is refused. Returns whether the first act was granted; `false` if it was refused for memory. Returns `None` if
+/// an act was answered wrongly, or the house didn't end with exactly the granted acts.
 fn was_first_granted<R: Wait>(
     rt: &R,
     alloc: Global,

@@ -1,11 +1,13 @@
-//! Tests of calls that request no memory: views, and acts that are denied, exceed the limit of events, or come when the
-//! journal is halted.
+//! Tests of calls that request no memory: views, and acts that are denied, exceed the limit of events, or come when
+//! the journal is halted. An error (`Fail`) means that a house couldn't be opened for lack of memory.
 //!
 //! An act is a request for an event. A view is what a see, a look or a report shows. The place of an event is its
 //! number in the list of events, from 1. The stored run has ten acts, over the path of three: nodes 1, 2 and 3 in a
-//! row. A house is one run of a lab that threads share. A visit is what a test does through two windows of a house. The
-//! type `H` is the name of a house, and only contracts use it. The library counts requests for memory. If it isn't
-//! loaded (`is_there` is `false`), only answers are checked.
+//! row. A house is one run of a lab that threads share. A window is one session's view of the published events. A
+//! sink is the destination of the journal's bytes, and a put is a write to it. The journal is halted if a put has
+//! failed. A visit is what a test does through two windows of a house. The type `H` is the name of a house, and only
+//! contracts use it. The library counts requests for memory. If it isn't loaded (`is_there` is `false`), only answers
+//! are checked.
 use super::library::{is_there, refuse, was_none_made};
 use mml_fakes::labs::PATH_OF_THREE;
 use mml_fakes::ten_acts::{act, asker};

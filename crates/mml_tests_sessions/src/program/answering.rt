@@ -1,4 +1,5 @@
-//! Tests of what `check`, `audit` and `script` write, over writers that fail after given numbers of writes or flushes.
+//! Tests of what `check`, `audit` and `script` write, over writers that fail after given numbers of writes or
+//! flushes. An error (`Fail`) means that memory ran out.
 //!
 //! The path of three is the lab of nodes 1, 2 and 3 in a row. An assertion inside a loop would need a loop invariant,
 //! so loops are in functions whose result a test asserts.

@@ -1,4 +1,5 @@
-//! Tests of the command line's words, of reading whole files, and of beginning a journal's file.
+//! Tests of the command line's words, of reading whole files, and of beginning a journal's file. An error (`Fail`)
+//! means that the system refused a call, or memory ran out.
 //!
 //! A journal has a line for each granted event of a run, and a sink is the destination of its bytes.
 use mml_ends::hold_streams;

@@ -1,4 +1,4 @@
-//! Tests of reading the command line.
+//! Tests of reading the command line. An error (`Fail`) means that words weren't read as a task, or memory ran out.
 //!
 //! An assertion inside a loop would need a loop invariant, so loops are in functions whose result a test asserts.
 use mml_program::read_words;

@@ -1,4 +1,5 @@
-//! A test of a slow put. The put holds the lock until another session waits for the lock, and a third one was answered.
+//! A test of a slow put. The put holds the lock until another session waits for the lock, and a third one was
+//! answered. An error (`Fail`) means that memory ran out.
 //!
 //! An act is a request for an event. A view is what a see, a look or a report shows. A put is a write to the sink,
 //! which is the destination of the journal's bytes. The lock is that of the list of events: an act takes it, and a view

@@ -1,7 +1,8 @@
 //! Tests of the lines of replies, over a lab of two nodes far apart. An error means that memory ran out.
 //!
-//! The first board of a lab is the one at the beginning of a run. A function that owns few large values, such as labs
-//! and boards, has a short proof, so some functions only make one and pass it on.
+//! A board is the state of a run after some events. The first board of a lab is the one at the beginning of a run. A
+//! function that owns few large values, such as labs and boards, has a short proof, so some functions only make one
+//! and pass it on.
 ghost use Rattle.mml_codec.specs.Replies.{IsAbout};
 
 use mml_board::Board;

@@ -1,9 +1,11 @@
 //! Tests of a hall whose sink fails after each possible number of bytes: which bytes the sink has, which events the
 //! hall has, and what audits say about the bytes. An error means that memory ran out, or is that of a script.
 //!
-//! A hall is the server of one thread, which answers scripts. A `Drip` is a sink that stores one byte in each put, and
-//! fails after some puts. `TEN_LINES` is the journal of the ten acts of a stored run over the path of three: nodes 1, 2
-//! and 3 in a row. A journal is torn if its last line isn't whole.
+//! A hall is the server of one thread, which answers scripts. A board is the state of a run after some events. A put
+//! is a write to a sink. A hall is halted if a put has failed; then it grants nothing more. An audit checks whether
+//! bytes are the journal of a run of a lab. A `Drip` is a sink that stores one byte in each put, and fails after some
+//! puts. `TEN_LINES` is the journal of the ten acts of a stored run over the path of three: nodes 1, 2 and 3 in a
+//! row. A journal is torn if its last line isn't whole.
 use mml_audit::{audit, audit_events};
 use mml_fakes::labs::PATH_OF_THREE;
 use mml_fakes::scripts::{GREETINGS, TEN_ACTS, TEN_LINES, ended_lines};
