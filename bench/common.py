@@ -14,7 +14,7 @@ HOST = Path(os.environ.get("MML_HOST") or TOP / "crates/mml_host/out/mml_host")
 # The program that is written by hand, without proofs, to which this one is compared.
 TYPED = Path(os.environ.get("MML_TYPED") or TOP / "bench/typed/out/typed")
 BUILT_IN = TOP / "crates/mml_program/src/built_in.rt"
-Words = Sequence[Union[str, Path]]
+Words = Sequence[Union[str, Path]]  # a command line
 
 
 def refuse(why: str) -> NoReturn:

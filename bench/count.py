@@ -77,7 +77,7 @@ class Counter:
 
     def count(self, row: Row) -> list[float]:
         """Returns the instructions per line of a row, for this program and for the one that is written by hand. Exits
-        with an error line if their outputs differ."""
+        with an error line if their outputs differ. Raises `CalledProcessError` if a program fails."""
         self.lab.write_text(row.lab(), encoding="ascii")
         less = self.write(row, row.few)
         before = [count_instructions(self.command(row, index), self.text) for index in range(2)]

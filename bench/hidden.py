@@ -30,7 +30,8 @@ PAIRS: list[tuple[str, str, str, str]] = [
 
 def count(program: Path, before: str, line: str, script: Path) -> tuple[float, bytes]:
     """Returns the number of instructions of a program for each `line` of a script, and the reply to it. `before` has
-    the lines at the beginning of the script, and the file `script` is overwritten. Exits if the replies differ."""
+    the lines at the beginning of the script, and the file `script` is overwritten. Exits if the replies differ. Raises
+    `CalledProcessError` if the program fails."""
     script.write_text(before, encoding="ascii")
     begun = count_instructions([program], script)
     script.write_text(before + line * LINES, encoding="ascii")

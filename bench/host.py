@@ -18,7 +18,7 @@ from bench.clients import BYE, CONNECTIONS, HELLO, free_port, time_clients
 from bench.common import HOST, PROGRAM, Words, built, built_in, refuse
 
 BURSTS, BURST, ROUNDS = 300, 100, 5
-Timed = tuple[float, Optional[bytes]]
+Timed = tuple[float, Optional[bytes]]  # the seconds that the clients needed, and the reply that all of them got, or None
 
 
 def time_serve(lab: Path) -> Timed:

@@ -117,7 +117,7 @@ def looks_at_last(turns: int) -> Iterable[str]:
 
 def journal(turns: int) -> Iterable[str]:
     """Yields the lines of a journal that repeats three events `turns` times: a move, a close and a fault that undoes
-    it."""
+    the close."""
     for turn in range(turns):
         place, number = 3 * turn, 2 * turn
         yield f"{place + 1} {number} grant ana 1 seduction"

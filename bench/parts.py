@@ -37,7 +37,7 @@ def by_function(words: Words, stdin: Path, room: Path) -> dict[str, int]:
 def parts_of(row: Row, counter: Counter, room: Path) -> dict[str, float]:
     """Returns the instructions of each function of this program per line of a row, by the function's name. They come
     from the difference of a longer and a shorter run. `counter` writes the row's files, and `room` is a folder for
-    callgrind's output."""
+    callgrind's output. Raises `CalledProcessError` if a command fails."""
     counter.lab.write_text(row.lab(), encoding="ascii")
     less = counter.write(row, row.few)
     before = by_function(counter.command(row, 0), counter.text, room)

@@ -25,14 +25,14 @@ from statistics import quantiles
 
 from bench.clients import free_port
 from bench.common import TOP, refuse
-from classroom.client import Client, Closed, Denied, Refused, Slip, connected, door_of, tls
+from classroom.client import Client, Closed, Denied, Refused, Slip, connect, door_of, tls
 from classroom.core.folders import Record
 
 PROCESSES = 8
 LOOKS, SHAKES = 0.1, 10.0  # seconds between two looks of a bot, and between two shakes
 LIMIT = 600.0  # seconds in which all bots have to be greeted
 TICKS = os.sysconf("SC_CLK_TCK")
-Times = list[tuple[str, float]]
+Times = list[tuple[str, float]]  # `hello` or `move`, and the seconds that it took
 
 
 def connection_to(slip: Slip, number: int) -> socket.socket:
@@ -40,7 +40,7 @@ def connection_to(slip: Slip, number: int) -> socket.socket:
     checking its certificate. There, the connection comes from an address of this machine that depends on `number`,
     because a door limits the connections of each address. Raises `Closed` or `OSError` if no connection can be made."""
     if not slip.door:
-        return connected(slip.port, LIMIT)
+        return connect(slip.port, LIMIT)
     plain = socket.create_connection(door_of(slip.door), LIMIT, (f"127.1.{number // 250}.{number % 250 + 1}", 0))
     it: socket.socket = tls().wrap_socket(plain, server_hostname=slip.network)
     return it
@@ -48,7 +48,8 @@ def connection_to(slip: Slip, number: int) -> socket.socket:
 
 def greet(slip: Slip, number: int) -> Client:
     """Returns a connection by a slip after its hello. If that fails, as while no seat is free, tries again each second
-    without end, like a bot. Through a door, the student connects from an address that `number` determines."""
+    without end, like a bot. Through a door, the student connects from an address that `number` determines. Raises
+    `Denied` if the server denies the hello."""
     while True:
         try:
             return Client(slip.port, slip.name, slip.key, limit=LIMIT, connection=connection_to(slip, number))

@@ -56,7 +56,8 @@ INSTEAD = {"none": "null", "nil": "null", "null": "null", "undefined": "null", "
 
 
 class Denied(Exception):
-    """A denied line: its clause's number, name for programs (also as `word`) and text for people; for `stale` also the present configuration's number."""
+    """A denied line: the clause, a condition of the protocol, that failed: its number, its name for programs (also as `word`), and its text for people.
+    After `stale`, `at` is the number of the present configuration, and otherwise None."""
 
     def __init__(self, clause: int, name: str, text: str, at: int | None = None) -> None:
         super().__init__(f"{name}: {text}")
@@ -135,7 +136,7 @@ class Look(See):
 
 @dataclass(frozen=True)
 class Move:
-    """A move that was granted."""
+    """A granted move: the number `at` of the configuration in which it was asked for, the number `place` of its event, its node and its rule."""
     at: int
     place: int
     node: int
@@ -148,7 +149,7 @@ class Move:
 
 @dataclass(frozen=True)
 class Close:
-    """A closed step, and the nodes that moved."""
+    """A closed step: the number `at` of the configuration after it, the number `place` of its event, and the nodes that moved."""
     at: int
     place: int
     moved: tuple[int, ...]
@@ -156,33 +157,33 @@ class Close:
 
 @dataclass(frozen=True)
 class Edit:
-    """What a fault, link, cut or release did. `dropped` is the number of chosen moves that it dropped, which is one for a release."""
-    at: int
-    place: int
-    dropped: int
+    """The effect of a fault, link, cut or release."""
+    at: int  # the number of the configuration after it
+    place: int  # the number of its event
+    dropped: int  # how many chosen moves it dropped; one for a release
 
 
 @dataclass(frozen=True)
 class Report:
-    """The state of the matching: pairs, free nodes, privileged nodes with their rules, and open links, each with a privileged node and its rule."""
+    """The state of the matching in the configuration `at`. It is stable if no node is privileged."""
     at: int
     stable: bool
     pairs: tuple[tuple[int, int], ...]
-    free: tuple[int, ...]
-    privileged: tuple[tuple[int, str], ...]
-    open: tuple[tuple[int, int, int, str], ...]
+    free: tuple[int, ...]  # the nodes that are in no pair
+    privileged: tuple[tuple[int, str], ...]  # the nodes at which a rule can be applied, each with the rule
+    open: tuple[tuple[int, int, int, str], ...]  # the links between two free nodes, each with a privileged node and its rule
 
 
 @dataclass(frozen=True)
 class Slip:
-    """A student's slip: a file with one value per line. A door needs the network's name, and is identified by its certificate's SHA-256."""
+    """A student's slip: a file with one value per line. A *door* is a TLS address for other machines. It needs the network's name and a fingerprint."""
     port: int
     name: str
     key: str
     nodes: tuple[int, ...]
-    door: str = ""
+    door: str = ""  # HOST:PORT, or empty if the slip has no door
     network: str = ""
-    fingerprint: str = ""
+    fingerprint: str = ""  # the SHA-256 of the door's certificate
 
     @staticmethod
     def read(path: str | Path) -> Slip:
@@ -264,7 +265,7 @@ def tls() -> Any:
     return it
 
 
-def connected(port: int, limit: float, slip: Slip | None = None, host: str = "127.0.0.1") -> socket.socket:
+def connect(port: int, limit: float, slip: Slip | None = None, host: str = "127.0.0.1") -> socket.socket:
     """Returns a connection to a port of `host`, or through a slip's door if any, within `limit` seconds. Raises NoServer, NoDoor, or Refused (a full door)."""
     it: Any = None
     try:
@@ -284,12 +285,12 @@ def connected(port: int, limit: float, slip: Slip | None = None, host: str = "12
 
 
 class Client:
-    """A connection after its hello. Not for several threads at once."""
+    """A connection after its hello. Not for several threads at once. All requests, such as `look`, raise the errors of `ask`."""
 
     def __init__(self, port: int, name: str, key: str, host: str = "127.0.0.1", limit: float = 30.0, connection: socket.socket | None = None) -> None:
         """Says hello by name and key on `connection`, or a new one to `port` of `host`. A reply may take `limit` seconds. Raises Closed, Denied or Refused."""
         self.name, self.port, self.limit, self._rest, self._ended = name, port, limit, b"", False
-        self._socket = connection or connected(port, limit, host=host)
+        self._socket = connection or connect(port, limit, host=host)
         try:
             self.ask(do="hello", name=name, key=key)
         except BaseException as error:
@@ -304,7 +305,7 @@ class Client:
     @staticmethod
     def of(slip: Slip, limit: float = 30.0) -> Client:
         """Returns a connection by a slip, after its hello. A reply may take `limit` seconds. Raises Closed, Denied or Refused."""
-        return Client(slip.port, slip.name, slip.key, limit=limit, connection=connected(slip.port, limit, slip))
+        return Client(slip.port, slip.name, slip.key, limit=limit, connection=connect(slip.port, limit, slip))
 
     def own_port(self) -> int:
         """Returns the local port of the connection."""
@@ -319,6 +320,7 @@ class Client:
         return self
 
     def __exit__(self, kind: type[BaseException] | None, *error: object) -> None:
+        """Closes the connection. First says bye if the `with` block ended without an error. If the bye is refused or the connection is lost, raises nothing."""
         try:
             if kind is None and not self._ended:
                 self.bye()
@@ -383,7 +385,8 @@ class Client:
         raise Moving(f"in {tries} attempts the configuration changed between two looks: try again")
 
     def move(self, look: Look, rule: Rule | None = None, partner: int | None = None) -> Move:
-        """Asks for a move by `rule` or the look's, and returns it. Marries `partner`, or the highest node pointing here. Raises Malformed if one is missing."""
+        """Asks for a move by `rule`, or if it is None by the look's rule, and returns the granted move. A marriage is with `partner`, or if that is None with
+        the highest node that points here. Raises Malformed, and asks for nothing, if both rules are None, or if a marriage has neither node."""
         if rule is None and look.rule is None:
             raise Malformed(f"the look at node {look.node} shows no rule: ask for no move there, or name a rule")
         request: dict[str, object] = {"do": "move", "node": look.node, "at": look.at, "rule": rule or look.rule}
@@ -495,7 +498,7 @@ def enter(slip: Slip, patience: float = 60.0) -> Client:
 
 def again(slip: Slip, lost: Closed | Refused, patience: float = 60.0) -> Client:
     """Returns a new connection by a slip after the error `lost` ended one. Tries each second while no server, seat or memory is available, and raises `lost`
-    after `patience` seconds. Raises any other refusal, and the end of the class, at once."""
+    after `patience` seconds. Raises any denial, any other refusal, and the end of the class, at once."""
     end = time.monotonic() + patience
     while not isinstance(lost, Over) and time.monotonic() < end:
         time.sleep(1)
@@ -532,7 +535,7 @@ def is_a(kind: str, value: object) -> bool:
             "true or false": isinstance(value, bool), "a rule": value in RULES}[kind]
 
 
-def said(value: object) -> str:
+def kind_in_words(value: object) -> str:
     """Returns a text with the kind of a value, for a message about a wrong kind. A number out of range is named as such."""
     kinds = {bool: "true or false", str: "a string", type(None): "null", dict: "an object", list: "a list", float: "a number with a point or exponent"}
     return NODE if is_a(NODE, value) else kinds.get(type(value), "a number out of range")
@@ -653,7 +656,7 @@ def wrong_value(value: object, deep: int = 1) -> str | None:
 def wrong_keys(asked: object) -> str | None:
     """Returns what is wrong with a request's keys or with the kinds of their values, or None if nothing is. `asked` may be any JSON value."""
     if not isinstance(asked, dict):
-        return f"the line is {said(asked)}, not an object"
+        return f"the line is {kind_in_words(asked)}, not an object"
     if "do" not in asked:
         return f'the key "do" is missing{hint_for_key("do", asked)}'
     word = asked["do"]
@@ -664,7 +667,7 @@ def wrong_keys(asked: object) -> str | None:
         if key not in asked:
             return f'the key "{key}" is missing{hint_for_key(key, asked)}'
         if not is_a(kind, asked[key]):
-            it = f'"{asked[key]}"' if kind == "a rule" and isinstance(asked[key], str) else said(asked[key])
+            it = f'"{asked[key]}"' if kind == "a rule" and isinstance(asked[key], str) else kind_in_words(asked[key])
             return f"{key} is {it}, not {'one of ' + ', '.join(RULES) if kind == 'a rule' else kind}{hint_for_value(kind, asked[key])}"
     return None
 
@@ -673,16 +676,17 @@ class ByHand:
     """A conversation with a server in which each line is typed."""
 
     def __init__(self, slip: Slip | None, port: int, log: Path | None, limit: float = 30.0) -> None:
-        """Connects by `slip`, or if that is None to `port`, within `limit` seconds. Says hello by the slip. Appends all lines to the file `log`, if any."""
+        """Connects by `slip` and says its hello, or if it is None only connects to `port`, within `limit` seconds. All lines are
+        appended to the file `log`, if any. Raises NoServer, NoDoor or Refused if it can't connect, and NotReply or NoServer if another program answers."""
         self.log, self.port, self.since, self.greeted, self.ended = log, port, time.monotonic(), False, False
-        self.connection = connected(port, limit, slip)
+        self.connection = connect(port, limit, slip)
         self.answers = self.connection.makefile("rb")
         if slip is not None:
             self.send(json.dumps({"do": "hello", "name": slip.name, "key": slip.key}), typed=False)
         self.connection.settimeout(None)
 
     def keep(self, line: str) -> None:
-        """Appends a line to the log. If that fails, prints a note and stops logging."""
+        """Appends a line to the log, if there is one. If that fails, prints a note and stops logging."""
         try:
             if self.log is not None:
                 with self.log.open("a", encoding="utf-8", errors="surrogateescape") as it:
@@ -696,7 +700,8 @@ class ByHand:
         print(f"client: {text}", file=sys.stderr, flush=True)
 
     def send(self, line: str, typed: bool = True) -> None:
-        """Sends a line, prints the reply, and sets `ended` at the connection's end. First prints what is wrong with a line if it was `typed`. Logs no key."""
+        """Sends a line, prints the reply, and sets `ended` at the connection's end. First prints what is wrong with a line if it was `typed`. Logs no key.
+        Raises NotReply or NoServer if another program seems to be at the port."""
         if typed and (note := wrong(line)):
             self.note(note)
             self.keep(f"! {note}")
@@ -740,11 +745,13 @@ async def carry(reader: Any, writer: Any) -> None:
 
 
 async def tunnel(slip: Slip, port: int) -> None:
-    """Listens on a local port, and forwards each connection through the slip's door. Raises NoSlip if the port can't be used, or what `connected` raises."""
+    """Forwards each connection to a local port through the slip's door. Raises NoSlip if the port can't be used, and NoServer, NoDoor or Refused if the
+    door can't."""
     import asyncio
 
     async def lead(reader: Any, writer: Any) -> None:
-        """Forwards a program's connection, `reader` and `writer`. After the program ends its side, waits up to five seconds for the last replies."""
+        """Forwards a program's connection, `reader` and `writer`. After the program ends its side, waits up to five seconds for the last replies.
+        Prints an error line if the door can't be reached or has another certificate."""
         try:
             far, near = await asyncio.open_connection(*door_of(slip.door), ssl=tls(), server_hostname=slip.network)
             require_certificate(near.get_extra_info("ssl_object").getpeercert(True), slip)
@@ -757,7 +764,7 @@ async def tunnel(slip: Slip, port: int) -> None:
             print(f"client: can't connect through the door at {slip.door}: {error}", file=sys.stderr, flush=True)
         writer.close()
 
-    connected(port, 30.0, slip).close()  # Fails at once if the door can't be reached.
+    connect(port, 30.0, slip).close()  # Fails at once if the door can't be reached.
     try:
         server = await asyncio.start_server(lead, "127.0.0.1", port)
     except OSError as error:

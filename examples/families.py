@@ -40,8 +40,8 @@ FAMILIES = {"crowd": (crowd, 4), "comb": (comb, 4), "halves": (halves, 2)}
 
 
 def main(words: list[str]) -> None:
-    """Prints the lab that the arguments name, a family and a number of nodes. Exits with the reason if they name
-    none."""
+    """Prints the lab that the arguments name, a family and a number of nodes. Exits with the usage if they name none,
+    and with a line if there is no such network of this size."""
     if len(words) != 2 or words[0] not in FAMILIES or not words[1].isdecimal():
         sys.exit(__doc__)
     family, least = FAMILIES[words[0]]

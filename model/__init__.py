@@ -19,6 +19,6 @@ from model.fault import Fault
 from model.journal import audit
 from model.lab import Lab, read_lab
 from model.run import Run, play
-from model.words import Ended, ended
+from model.words import Ended, run_command
 
-__all__ = ["Ended", "Fault", "Lab", "Run", "audit", "ended", "play", "read_lab"]
+__all__ = ["Ended", "Fault", "Lab", "Run", "audit", "play", "read_lab", "run_command"]

@@ -10,14 +10,14 @@
 import sys
 
 from model.stored import write_all
-from model.words import ended
+from model.words import run_command
 
 
 def main(words: list[str]) -> int:
     """Runs the command that the arguments name, prints its output, and returns the exit status. Also prints the usage if they name none."""
     if words == ["--all"]:
         return write_all()
-    found = ended(words)
+    found = run_command(words)
     sys.stdout.buffer.write(found.out)
     sys.stdout.flush()
     sys.stderr.buffer.write(found.error)

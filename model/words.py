@@ -1,4 +1,4 @@
-"""The command line: the commands of the proved program that serve nobody, and their output."""
+"""The command line: those commands of the proved program that start no server, and their output."""
 from collections.abc import Callable
 from pathlib import Path
 from typing import NamedTuple
@@ -79,7 +79,7 @@ WORDS = {
 }
 
 
-def ended(words: list[str]) -> Ended:
+def run_command(words: list[str]) -> Ended:
     """Runs the command that the arguments name. Returns its result, which is the same as that of the proved program."""
     name, *files = words or [""]
     if name not in WORDS or len(files) not in WORDS[name].counts or any(file.startswith("-") for file in files):

@@ -37,7 +37,8 @@ def without_missing(page: Path) -> tuple[str, list[str]]:
 
 
 def main(words: list[str]) -> int:
-    """Changes the pages in the folder that the only argument names. Returns the exit status."""
+    """Removes links to missing files from the pages in the folder that the only argument names. Returns the exit
+    status. If a picture is missing, prints that, changes no page, and returns 1."""
     folder = Path(words[0])
     pages = {page: without_missing(page) for page in sorted(folder.rglob("*.md"))}
     missing = [f"{page.relative_to(folder)}: there is no picture {picture}" for page, (_, pictures) in pages.items() for picture in pictures]

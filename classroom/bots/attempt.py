@@ -4,7 +4,8 @@ take.
 A *bot* is a student's program under test. A *case* is a lab that the bot plays, with troubles during the run. The lab's
 class runs in this process (`classroom.bots.playing`), and its *relay* is the port to which the bot connects. A bot is
 *kept apart* if it runs in namespaces of its own (`classroom.bots.apart`). Functions that run the class raise `Fails` if
-the bot has done something wrong, and `Stopped` after an interrupt.
+the bot has done something wrong, and `Stopped` after an interrupt. A *script* is a list of request lines that repeats
+the class's run.
 """
 from __future__ import annotations
 

@@ -4,7 +4,7 @@ wouldn't have sent.
 Each rule here is one that `docs/STUDENT.md` asks a bot to keep. Guards, the conditions under which a node may move,
 aren't among them, because the server denies those moves. The *number* of a look or a move is that of the configuration
 in which the program asked. A granted move is *chosen* until a step applies it, and `stale` is the denial of a move with
-an old number. In the functions, `asked` has the values of a request, and the next parameter those of its reply.
+an old number. In the functions, `asked` has the values of a request, and `reply` those of its reply.
 """
 from __future__ import annotations
 
@@ -76,34 +76,34 @@ class Conduct:
     rules_hidden: int = 0  # looks in which the enabled rule was replaced by null
     wrong: str = ""
 
-    def take(self, asked: dict[str, Any], told: dict[str, Any], paused: bool) -> None:
+    def take(self, asked: dict[str, Any], reply: dict[str, Any], paused: bool) -> None:
         """Notes a look of the program, or checks its request for a move, and records a fault in `wrong`. Doesn't check
-        moves that were refused, or denied as `not-greeted` or `not-owner`. `asked` has the values of the line, and the
-        second parameter those of the reply, or none if the reply was lost. `paused` says whether the program waited
-        before this line."""
+        moves that were refused, or denied as `not-greeted` or `not-owner`. `asked` has the values of the line, and
+        `reply` those of its reply, or none if the reply was lost. `paused` says whether the program waited before this
+        line."""
         self.pauses.append(paused)
         node, at = number_of(asked.get("node")), number_of(asked.get("at"))
-        if told.get("ok") in ("look", "see"):
-            self.take_look(told)
-        elif asked.get("do") == "move" and told.get("deny") not in ("not-greeted", "not-owner") and "refuse" not in told:
-            self.check_move(node, at, told)
+        if reply.get("ok") in ("look", "see"):
+            self.take_look(reply)
+        elif asked.get("do") == "move" and reply.get("deny") not in ("not-greeted", "not-owner") and "refuse" not in reply:
+            self.check_move(node, at, reply)
 
-    def take_look(self, told: dict[str, Any]) -> None:
-        """Notes the node, the number and the chosen move of a reply to `look` or `see` with these values."""
-        node, at = told["node"], told["at"]
+    def take_look(self, reply: dict[str, Any]) -> None:
+        """Notes the node, the number and the chosen move in `reply`, the values of a reply to `look` or `see`."""
+        node, at = reply["node"], reply["at"]
         self.looked.add((node, at))
         self.seen.add(node)
         self.recent.add(node)
         self.newest[node] = at
-        if told.get("chosen") is not None:
+        if reply.get("chosen") is not None:
             self.chosen[node] = at
-        elif told["ok"] == "look":  # A reply to `see` doesn't say whether a move is chosen.
+        elif reply["ok"] == "look":  # A reply to `see` doesn't say whether a move is chosen.
             self.chosen.pop(node, None)
 
-    def check_move(self, node: int, at: int, told: dict[str, Any]) -> None:
+    def check_move(self, node: int, at: int, reply: dict[str, Any]) -> None:
         """Checks a request for a move of a node with the number `at` against what the program knew, and notes its
-        reply. The last parameter has the values of the reply, or none if it was lost. Records a fault in `wrong`."""
-        if not told:
+        reply. `reply` has the reply's values, or none if it was lost. Records a fault in `wrong`."""
+        if not reply:
             self.unanswered.add((node, at))
         if (node, at) not in self.looked and (node, at) in self.before:
             self.across += 1
@@ -124,12 +124,12 @@ class Conduct:
             if self.in_vain > MOST_AGAIN:
                 self.note_fault("the bot asks again and again for moves of nodes that have a granted move already, as replies said, for instance "
                                 f"of node {node} with `at` {at}: after a grant look again a little later, and ask only if `chosen` is null")
-        if told.get("deny") == "stale":
+        if reply.get("deny") == "stale":
             self.stale[node, at] += 1
             if self.stale[node, at] > MOST_AGAIN:
                 self.note_fault(f"the bot asks again and again for a move of node {node} with `at` {at}, which was denied as `stale`: after `stale` look at "
                                 "the node again")
-        elif told.get("ok") == "move" or told.get("deny") == "chosen":
+        elif reply.get("ok") == "move" or reply.get("deny") == "chosen":
             self.chosen[node] = at
 
     def forget_looks(self) -> None:

@@ -2,7 +2,8 @@
 
 A *daemon* decides which nodes move in each step, and a *close* is the end of a step. A *setting* is a family of
 networks with a size, a daemon and a start, and a run is a setting with a seed. The *table* is the file of `--csv`, with
-a *row* for each run, and a *part* is one machine's share of the runs.
+a *row* for each run, and a *part* is one machine's share of the runs. The *script* of a run is a list of request lines
+that repeats it.
 """
 from __future__ import annotations
 

@@ -1,5 +1,6 @@
 """Explanations of mistakes: which part of a guard fails, and what a correct bot sends. The explanations come from the
-plain model (`model/`), a second program with the same rules. A guard is the condition under which a node may move.
+plain model (`model/`), a second program with the same rules. A guard is the condition under which a node may move, and
+a *script* is a list of request lines, each after the number of its connection.
 
 The explanations help a reader who looks for a mistake, and are marked as the model's. No verdict depends on them.
 """

@@ -206,7 +206,8 @@ class Watch:
 
 def wait_for_end(process: subprocess.Popen[bytes], fault: Callable[[], str]) -> str:
     """Waits until a process ends, standard input ends, or `fault` returns a text, the reason to end the process.
-    Returns `ended STATUS` or `killed REASON`. Only decides that the process is to be killed, and doesn't kill it."""
+    Returns `ended STATUS` or `killed REASON`; the reason is `asked` if standard input has ended. Only decides that the
+    process is to be killed, and doesn't kill it."""
     while True:
         if select.select([sys.stdin], [], [], LOOK)[0] and not os.read(0, 4096):
             return "killed asked"

@@ -3,6 +3,7 @@ proved program.
 
 A run is made of *steps*. In each the daemon chooses some of the privileged nodes, those with an enabled rule, and they
 move at once. A *bench* is a process of the proved program that answers the requests of several runs, one after another.
+The *script* of a run is a list of request lines that repeats it.
 """
 from __future__ import annotations
 
@@ -21,7 +22,7 @@ from classroom.run.adversary import Adversary
 from classroom.run.daemons import SEARCHING, Daemon, movers
 from classroom.setup.new import set_registers
 
-SIZED = ("grid:", "random:")
+SIZED = ("grid:", "random:")  # how the names of those families begin that have the size of the network in them
 
 
 @dataclass(frozen=True)
@@ -70,7 +71,7 @@ def drawn(setting: Setting, seed: int) -> labs.Lab:
 
 def partner_chooser(how: Daemon, chance: random.Random) -> Callable[[Sequence[int]], int]:
     """Returns the function that chooses a node's partner among the nodes that point at it. The function chooses the
-    lowest if the daemon searches for long runs, and otherwise a random one."""
+    lowest if the daemon `how` searches for long runs. Otherwise it chooses a random one, by `chance`."""
     if how.kind in SEARCHING:
         return min
     return chance.choice

@@ -63,7 +63,7 @@ def results_in(file: Path) -> list[Result]:
 
 def joined(files: Iterable[Path], order: Sequence[Case]) -> tuple[list[Result], list[Case]]:
     """Returns the results of all files in the order of these cases, and the cases that no file has. Raises `Fault` if a
-    case isn't one of this run, or if two files have different results of it."""
+    file can't be read, if a case in it isn't one of these cases, or if two files have different results of a case."""
     found: dict[Case, tuple[Result, Path]] = {}
     for file in files:
         for result in results_in(file):

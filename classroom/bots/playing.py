@@ -3,8 +3,9 @@
 The replies to all lines are those of the proved program. The *house* plays the nodes of the students without a program.
 A granted move is *chosen* until a step applies it. The *daemon* decides when a step is closed, and which chosen moves
 it applies. The *report* is the proved program's reply that lists the privileged nodes, those with an enabled rule. The
-*relay* is the port to which students' programs connect, and the *adversary* searches for moves that make a run long. In
-the functions, `asked` has the values of a request, and the next parameter those of its reply.
+*relay* is the port to which students' programs connect, and the *adversary* searches for moves that make a run long. A
+*clause* is one of the numbered conditions under which a request is granted. A *script* is a list of request lines that
+repeats the run, each after the number of its connection.
 """
 from __future__ import annotations
 
@@ -40,7 +41,7 @@ SHOWN, SHOWN_LINE = 40, 120  # characters of a word and of a line that are shown
 OWN_RULE = "with --own-rule the replies to looks don't name the rule whose guard holds: a bot has to find it from p, m and near (see docs/STUDENT.md)"
 MEMORY = b'{"refuse":"memory"}'
 RULE = re.compile(rb',"rule":"[a-z]+"}$')  # the enabled rule at the end of a reply to a look
-PATIENCE = 0.5  # seconds without a grant after which the random daemon closes a step
+PATIENCE = 0.5  # seconds without an event after which the random daemon, the schedule and the adversary close a step
 
 
 @dataclass
@@ -89,12 +90,12 @@ def request_of(line: bytes) -> dict[str, Any]:
     return asked if isinstance(asked, dict) else {}
 
 
-def kind_of(asked: dict[str, Any], told: dict[str, Any]) -> str:
+def kind_of(asked: dict[str, Any], reply: dict[str, Any]) -> str:
     """Returns a text for the kind of a denial, without its numbers: the request, the clause that denied it, and for a
-    guard also the rule. `asked` has the request's values, and the second parameter those of its reply. Denials of one
-    kind are explained once."""
-    what = str(asked.get("do"))[:SHOWN] + (f" by {asked.get('rule')}" if told["deny"] == "guard" else "")
-    return f"{what} is denied as {told['deny']}, clause {told['clause']}"
+    guard also the rule. `asked` has the request's values, and `reply` those of its reply. Denials of one kind are
+    explained once."""
+    what = str(asked.get("do"))[:SHOWN] + (f" by {asked.get('rule')}" if reply["deny"] == "guard" else "")
+    return f"{what} is denied as {reply['deny']}, clause {reply['clause']}"
 
 
 def request_in_words(asked: dict[str, Any]) -> str:
@@ -207,13 +208,13 @@ class Playing:
         elif self.forestalls and node not in self.chosen and self.house_owner(node):
             self.ask_for_house_move(node)
 
-    def hide_rule(self, who: str, reply: bytes, told: dict[str, Any]) -> bytes:
-        """Returns the bytes of a reply as the program of the student `who` gets them. With `own_rule`, the enabled rule
-        in a look is replaced by null, and this is counted. The last parameter has the values of the reply."""
-        if not self.own_rule or told.get("ok") != "look" or told["rule"] is None:
-            return reply
+    def hide_rule(self, who: str, raw: bytes, reply: dict[str, Any]) -> bytes:
+        """Returns the bytes `raw` of a reply as the program of the student `who` gets them. With `own_rule`, the
+        enabled rule in a look is replaced by null, and this is counted. `reply` has the values of the reply."""
+        if not self.own_rule or reply.get("ok") != "look" or reply["rule"] is None:
+            return raw
         self.heard[who].conduct.rules_hidden += 1
-        return RULE.sub(b',"rule":null}', reply)
+        return RULE.sub(b',"rule":null}', raw)
 
     def log_conversation(self, connection: int, line: bytes, reply: bytes) -> None:
         """Appends a line of the connection with this number, and its reply, to the conversation, unless the
@@ -221,59 +222,59 @@ class Playing:
         if len(self.conversation) < KEPT_LINES:
             self.conversation += [f"{connection} > {line.decode(errors='backslashreplace')}", f"{connection} < {reply.decode() or '(lost)'}"]
 
-    def record_line(self, who: str, asked: dict[str, Any], sent: bytes, told: dict[str, Any]) -> None:
+    def record_line(self, who: str, asked: dict[str, Any], sent: bytes, reply: dict[str, Any]) -> None:
         """Counts a line of the program of the student `who` by its reply, and keeps a row about the line (`note_row`).
         If a move was granted, also notes that its node is chosen. Calls `on_no` if the line was denied or refused.
-        `asked` has the line's values, and `sent` is the line, with the number of its connection before it. The last
-        parameter has the reply's values."""
+        `asked` has the line's values, and `sent` is the line, with the number of its connection before it. `reply` has
+        the values of its reply."""
         heard, line = self.heard[who], sent.partition(b" ")[2]
-        self.note_row(who, sent, told)
+        self.note_row(who, sent, reply)
         heard.lines += 1
         heard.last, heard.last_at = line[:SHOWN_LINE].decode(errors="backslashreplace"), time.monotonic()
         if asked.get("do") == "move":
             heard.asked += 1
             heard.wanted.add(str(asked.get("rule")))
-        if told.get("ok") == "move":
+        if reply.get("ok") == "move":
             heard.granted += 1
-            heard.rules[told["rule"]] += 1
-            self.note_grant(told["node"], who, told["rule"])
-        elif "deny" in told:
-            heard.denied[told["deny"]] += 1
-            self.on_no(NotGranted(who, told["deny"], self.explain_denial(asked, told), kind_of(asked, told), sent))
-        elif "refuse" in told:
-            heard.denied[told["refuse"]] += 1
-            note = wrong(line.decode(errors="surrogateescape").replace("\r", " ")) if told["refuse"] == "malformed" else None
-            text = f"a line is refused as {told['refuse']}" + (f": {note}" if note else "")
+            heard.rules[reply["rule"]] += 1
+            self.note_grant(reply["node"], who, reply["rule"])
+        elif "deny" in reply:
+            heard.denied[reply["deny"]] += 1
+            self.on_no(NotGranted(who, reply["deny"], self.explain_denial(asked, reply), kind_of(asked, reply), sent))
+        elif "refuse" in reply:
+            heard.denied[reply["refuse"]] += 1
+            note = wrong(line.decode(errors="surrogateescape").replace("\r", " ")) if reply["refuse"] == "malformed" else None
+            text = f"a line is refused as {reply['refuse']}" + (f": {note}" if note else "")
             kind = text.partition(" (")[0]  # The correction in parentheses may contain a number.
-            self.on_no(NotGranted(who, told["refuse"], f"{text}; the line is {line[:SHOWN_LINE].decode(errors='backslashreplace')}", kind, sent))
+            self.on_no(NotGranted(who, reply["refuse"], f"{text}; the line is {line[:SHOWN_LINE].decode(errors='backslashreplace')}", kind, sent))
 
-    def note_row(self, who: str, sent: bytes, told: dict[str, Any]) -> None:
+    def note_row(self, who: str, sent: bytes, reply: dict[str, Any]) -> None:
         """Appends a row about a line to `rows`, which the programs' own pages show. Does so only if a move was granted,
         or if the line was denied or refused, and not once there are KEPT_ROWS rows. Keys in the line are hidden. `who`
-        is the student, and `sent` is the line, with the number of its connection before it. The last parameter has the
-        reply's values."""
-        if told.get("ok") not in ("move", None) or len(self.rows) >= KEPT_ROWS:
+        is the student, and `sent` is the line, with the number of its connection before it. `reply` has the values of
+        its reply."""
+        if reply.get("ok") not in ("move", None) or len(self.rows) >= KEPT_ROWS:
             return
         connection, _, line = sent.partition(b" ")
         # A row has the number of events before its line, and so without the event of a granted move.
-        place = told["place"] - 1 if "place" in told else self.program.place
-        reply = json.dumps(told, sort_keys=True, separators=(",", ":"))
-        self.rows.append(Row(place, int(connection), 0, self.hider.line(line), reply, told.get("deny") or told.get("refuse") or ""))
+        place = reply["place"] - 1 if "place" in reply else self.program.place
+        text = json.dumps(reply, sort_keys=True, separators=(",", ":"))
+        self.rows.append(Row(place, int(connection), 0, self.hider.line(line), text, reply.get("deny") or reply.get("refuse") or ""))
         self.owners.append(who)
 
     def own_rows(self, who: str) -> list[Row]:
         """Returns the rows about the lines of the program of the student `who`, in their order."""
         return [row for row, owner in zip(self.rows, self.owners) if owner == who]
 
-    def explain_denial(self, asked: dict[str, Any], told: dict[str, Any]) -> str:
+    def explain_denial(self, asked: dict[str, Any], reply: dict[str, Any]) -> str:
         """Returns a text about a denial: its clause, the node's registers, and the rule that would be granted there.
         After the denials `not-owner`, `hidden` and `stale`, and if there is no such node, it has only the clause and
-        the numbers of configurations. `asked` has the request's values, and the second parameter those of its reply."""
-        text = f"{request_in_words(asked)} is denied as {told['deny']}, clause {told['clause']}: {told['text']}"
-        if "at" in told:
-            text += f"; the request has `at` {asked.get('at')}, but the current configuration has the number {told['at']}"
+        the numbers of configurations. `asked` has the request's values, and `reply` those of its reply."""
+        text = f"{request_in_words(asked)} is denied as {reply['deny']}, clause {reply['clause']}: {reply['text']}"
+        if "at" in reply:
+            text += f"; the request has `at` {asked.get('at')}, but the current configuration has the number {reply['at']}"
         node = number_of(asked.get("node"))
-        if told["deny"] in ("not-owner", "hidden", "stale") or node not in {each.id for each in self.lab.nodes}:
+        if reply["deny"] in ("not-owner", "hidden", "stale") or node not in {each.id for each in self.lab.nodes}:
             return text
         look = self.program.ask(TEACHER, do="look", node=node)
         near = ", ".join(f"{each['node']} (p {each['p'] or 'null'}, m {str(each['m']).lower()})" for each in look["near"])

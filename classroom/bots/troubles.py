@@ -5,7 +5,8 @@ Each trouble is a function here, whose `attempt` is the bot's attempt at the cas
 enabled there. Most of these functions make a fault at a node of the bot, so that the node becomes privileged and the
 bot has to move it. Then they run the class until it is stable again. All raise `Fails` if the bot does something wrong
 or is too late, and `Stopped` after an interrupt. The *number* is that of the present configuration, and a move is
-*stale* if it has an earlier one.
+*stale* if it has an earlier one. A granted move is *chosen* until a step applies it, and each connection takes a *seat*
+at the server.
 """
 from __future__ import annotations
 

@@ -22,7 +22,7 @@ MOST_SCRIPT = 1_000_000  # the most bytes of a script that is kept; `mml` accept
 SOME = 24  # the most lines that are sent before their replies are read
 
 
-def started(lab: labs.Lab) -> subprocess.Popen[bytes]:
+def start_answering(lab: labs.Lab) -> subprocess.Popen[bytes]:
     """Starts `mml answer` for a lab, and returns its process, whose input, output and errors are pipes. The lab's file
     has no name, so that a student's program can't find it. Raises `Fault` if the program isn't built."""
     program = host()
@@ -41,7 +41,7 @@ def started(lab: labs.Lab) -> subprocess.Popen[bytes]:
 def replies_to(lab: labs.Lab, script: list[str]) -> str:
     """Runs `mml answer` for a lab with a whole script as its input. Returns the replies, one per line, each after the
     number of its connection. Raises `Fault` if the program isn't built, fails, or doesn't reply to each line."""
-    with started(lab) as process:
+    with start_answering(lab) as process:
         out, error = process.communicate("\n".join([*script, ""]).encode("ascii"))
     replies, said = out.decode("ascii"), error.decode(errors="replace").strip()
     count = replies.count("\n")
@@ -57,7 +57,7 @@ class Answering:
     def __init__(self, lab: labs.Lab) -> None:
         """Starts `mml answer` for a lab. Raises `Fault` if the program isn't built."""
         self.lab = lab
-        self.process = started(lab)
+        self.process = start_answering(lab)
         self.size = self.place = 0  # the number of bytes in `granted`, and the place (the number) of the last event
         self.granted: list[bytes] = []  # the lines of the script that repeats what was granted
         self.names: dict[int, str] = {}  # the name that has greeted on each connection

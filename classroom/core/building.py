@@ -64,6 +64,7 @@ def build() -> int:
 
 
 def set_up() -> None:
-    """Builds the program if this is a clone that lacks it. Raises `Fault` if the build fails."""
+    """Builds the program if this is a clone that lacks it. Raises `Fault` if the build fails, and `SystemExit` if a
+    signal ends it."""
     if lacks_program() and build() != 0:
         raise Fault("this command needs the program mml, and building it failed. The lines above say why")

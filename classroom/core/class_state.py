@@ -17,7 +17,7 @@ a second and only if something has changed:
 - `links`: a list of [node, node]
 - `nodes`: a list of [node, p or null, m, the rule of its chosen move or null]; empty unless the network has a page
 
-The state of the class is a JSON object, which the page for all receives (`classroom.pages.hall`):
+The state of the class is a JSON object, which the page for all networks receives (`classroom.pages.hall`):
 
 - `title`: what the class is called
 - `ended`: whether the class is over
@@ -50,7 +50,7 @@ STARTS, RUNS, DOWN, ENDED = "starts", "runs", "down", "ended"
 
 @dataclass
 class NetworkState:
-    """The state of a network, as the page for all shows it."""
+    """The state of a network, as the page for all networks shows it."""
 
     number: int
     name: str
@@ -66,7 +66,7 @@ class NetworkState:
 
 @dataclass
 class ClassState:
-    """The state of a class, as the page for all shows it."""
+    """The state of a class, as the page for all networks shows it."""
 
     title: str
     networks: list[NetworkState] = field(default_factory=list)

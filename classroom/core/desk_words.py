@@ -1,5 +1,6 @@
 """The commands of a teacher's desk, which are typed or come from buttons: one table for all code that parses, runs,
-shows, counts or replays a command."""
+shows, counts or replays a command. The *desk* is the teacher's connection to the server, with the terminal and the page
+at which the teacher gives commands."""
 from __future__ import annotations
 
 from collections.abc import Callable, Sequence

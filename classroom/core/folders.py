@@ -57,8 +57,8 @@ def of_folder(folder: Path) -> Run:
 def title(lab: Path, journal: Path, name: str = "") -> str:
     """Returns a title for a run: the lab's name, or `name` if it is given, and the day of the run. The day is that in
     the name of the run's folder, or in a class that in the name of the class's folder. The lab's name is from
-    `run.json`, or else from the folder's name. For files in no such folder, the title has the name of the lab's file
-    and the day of the journal's last change."""
+    `run.json`, or else from the folder's name. If the files aren't in the folder of a run, the title has the name of
+    the lab's file and the day of the journal's last change."""
     own = lab.resolve().parent
     in_class = (own.parent / CLASS).is_file()
     found = re.fullmatch(r"(?P<day>\d{4}-\d\d-\d\d)T\d{4}-(?P<lab>.+)", (own.parent if in_class else own).name)

@@ -1,4 +1,7 @@
-"""The events of a journal that `mml audit` has passed."""
+"""The events of a journal that `mml audit` has passed. A *journal* is the file of a run that lists the granted moves,
+the closed steps and the teacher's changes, its *events*. A *configuration* is the state of all registers and links at
+one moment, and configurations are numbered from 0. A *fault*, a *link* and a *cut* are the teacher's changes of
+registers and links."""
 from __future__ import annotations
 
 from dataclasses import dataclass

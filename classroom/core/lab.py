@@ -1,6 +1,6 @@
 """A lab's file: reading and writing it. A lab defines a network with its first registers, the students who own the
-nodes, the teacher, and the limits of a run. The *house* is a student without a person, who may play for absent
-students."""
+nodes, the teacher, and the limits of a run. The *journal* of a run is the file with its events. The *house* is a
+student without a person, who may play for absent students."""
 from __future__ import annotations
 
 import json
@@ -48,7 +48,7 @@ class Lab:
         """Returns the identifiers of the nodes of the student `name`."""
         return [node.id for node in self.nodes if name in node.owners]
 
-    def held(self) -> list[int]:
+    def house_nodes(self) -> list[int]:
         """Returns the nodes at which the house may play: those that it owns together with one student. Returns none if
         the house owns a node in another way, since such a house is an ordinary student."""
         nodes = [node for node in self.nodes if HOUSE in node.owners]
@@ -57,7 +57,7 @@ class Lab:
     def without_house(self) -> Lab:
         """Returns the lab without the house as a student and as an owner. Returns the lab unchanged if the house may
         play nowhere."""
-        if not self.held():
+        if not self.house_nodes():
             return self
         students = {name: key for name, key in self.students.items() if name != HOUSE}
         nodes = [replace(node, owners=[name for name in node.owners if name != HOUSE]) for node in self.nodes]
@@ -66,10 +66,10 @@ class Lab:
 
 def is_same(one: Lab, other: Lab) -> bool:
     """Returns whether two labs agree in all that a journal refers to. Keys and limits may differ."""
-    return named(one) == named(other)
+    return journal_parts(one) == journal_parts(other)
 
 
-def named(lab: Lab) -> object:
+def journal_parts(lab: Lab) -> object:
     """Returns the parts of a lab that a journal refers to, for a comparison: names in their order, nodes with owners
     and registers, and links."""
     nodes = {node.id: (frozenset(node.owners), node.p, node.m) for node in lab.nodes}
@@ -135,7 +135,7 @@ def with_house_apart(line: str, lab: Lab) -> str:
     """Returns `line`, which the proved program has printed about the size of `lab`, changed so that the house is counted
     separately. The program counts the house as a student."""
     students = len(lab.without_house().students)
-    return line.replace(f"{students + 1} students", f"{students} students and the house") if lab.held() else line
+    return line.replace(f"{students + 1} students", f"{students} students and the house") if lab.house_nodes() else line
 
 
 def quoted(word: str) -> str:

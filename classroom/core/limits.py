@@ -45,7 +45,8 @@ class Limits:
 
     @property
     def seats(self) -> int:
-        """Returns how many students can play at once: all sessions but the teacher's."""
+        """Returns how many students can play at once. Each needs a session, a connection to the server, and one session
+        is the teacher's."""
         return self.sessions - 1
 
 

@@ -21,7 +21,7 @@ NAMED = "path, cycle, star, complete, tree, crowd, halves, grid:WxH, random:N:LI
 
 
 class UnknownFamily(Fault):
-    """The reason why a name isn't that of a family of networks."""
+    """Raised if a name isn't that of a family of networks. The text lists the families."""
 
 
 def neighbours(nodes: Iterable[int], links: Iterable[tuple[int, int]]) -> dict[int, list[int]]:

@@ -14,7 +14,7 @@ MOST_KEPT = 1 << 16  # the most bytes that are read of a file that `run` keeps f
 DIGITS = 19  # the most digits of a number in a record
 
 
-def opened(path: Path) -> BinaryIO:
+def open_plain(path: Path) -> BinaryIO:
     """Opens a plain file for reading, and returns it. Raises `Fault` if the file is a pipe or a device, or can't be
     opened."""
     try:
@@ -35,7 +35,7 @@ def not_plain(path: Path) -> Fault:
 def read(path: Path, most: int) -> bytes:
     """Returns the bytes of a plain file. Raises `Fault` if the file isn't plain, can't be opened, or has more than
     `most` bytes."""
-    with opened(path) as it:
+    with open_plain(path) as it:
         is_large = os.fstat(it.fileno()).st_size > most  # The file can still grow before it is read.
         content = b"" if is_large else it.read(most + 1) or b""
     if is_large or len(content) > most:
@@ -46,14 +46,14 @@ def read(path: Path, most: int) -> bytes:
 def tail(path: Path, most: int) -> bytes:
     """Returns the last `most` bytes of a plain file, or all bytes if there are fewer. Raises `Fault` if the file isn't
     plain or can't be opened."""
-    with opened(path) as it:
+    with open_plain(path) as it:
         it.seek(max(0, os.fstat(it.fileno()).st_size - most))
         return it.read(most) or b""
 
 
 def require_plain(path: Path) -> None:
-    """Raises `Fault` if the path is that of something other than a plain file, or of a link whose target is missing. A
-    path at which nothing is raises no error."""
+    """Raises `Fault` if the path is that of something other than a plain file, or of a link whose target is missing.
+    Raises no error if nothing is at the path."""
     if os.path.lexists(path) and not path.is_file():
         raise not_plain(path)
 

@@ -1,6 +1,6 @@
-"""The state of a continuing run at its desk: the chosen moves, and the moves that steps applied. A granted move is
-*chosen* until a close applies it, and a *close* ends a step. Marks aren't counted here but by
-`classroom.core.tally`."""
+"""The state of a continuing run at its desk, the teacher's connection to the server: the chosen moves, and the moves
+that steps applied. A granted move is *chosen* until a close applies it, and a *close* ends a step. Marks aren't counted
+here but by `classroom.core.tally`."""
 from __future__ import annotations
 
 from classroom.core.desk_words import links_after

@@ -1,5 +1,6 @@
 """The record of a run: the requests and replies of each seat (docs/RECORD.md), as the host wrote them. A *seat* serves
-one connection after another, and an *entry* is one line with its reply, or a mark."""
+one connection after another, and an *entry* is one line with its reply, or a mark. The *journal* is the file with the
+events of the run."""
 from __future__ import annotations
 
 import json
@@ -19,7 +20,7 @@ ENDED, CUT, PAUSED, RESUMED = ".", "!", "-", "+"
 
 @dataclass(frozen=True)
 class Entry:
-    """A line with its reply, or a mark: `.` if a session ended, `!` if an entry may be missing, `-` if recording
+    """A line with its reply, or a mark: `.` if the connection ended, `!` if an entry may be missing, `-` if recording
     pauses, and `+` if it resumes."""
 
     seat: int

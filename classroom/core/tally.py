@@ -1,5 +1,6 @@
-"""The tally of a journal, the numbers from which marks are made: the lines that the command `tally` of the host's
-program prints (docs/JOURNAL.md)."""
+"""The tally of a journal, the numbers from which marks are made: the lines that the command `tally` of the server's
+program prints (docs/JOURNAL.md). The *journal* of a run lists its events. The *record* of a run has the requests of its
+connections with their replies, also those that were denied."""
 from __future__ import annotations
 
 import os

@@ -77,8 +77,8 @@ class RequestHead:
         return int(size)
 
     def require_host(self, hosts: set[str], port: int) -> None:
-        """Raises `BadRequest` unless the head names one of these hosts, with this port. Otherwise a page of another
-        site could send requests to the door under a name of that site."""
+        """Raises `BadRequest` unless the head names one of these hosts, with this port. Without this check, a page of
+        another site could send requests to the door under a name of that site."""
         host = self.heads.get("host", "").lower()
         if host not in {f"{each.lower()}:{port}" for each in hosts}:
             raise BadRequest("421 Misdirected Request", f"this door doesn't have the address {host!r}. Open the address on your slip")
@@ -105,8 +105,8 @@ class RequestHead:
 def page_of(asked: RequestHead, path: str, record: Record) -> tuple[int, str]:
     """Returns the port of the page for which `asked`, the head of a request, asks, and the path there. `path` is the
     path below the network's name, and `record` has the ports of the network's pages. A path with `look` and the right
-    token leads to the page to look at, and any other path to the page for playing by hand. No path leads to a page on
-    which the teacher acts. Raises `BadRequest` if there is no such page."""
+    token, the random text in that page's address, leads to the page to look at, and any other path to the page for
+    playing by hand. No path leads to a page on which the teacher acts. Raises `BadRequest` if there is no such page."""
     looks = re.fullmatch(r"/look(?P<path>/(?P<token>[A-Za-z0-9_-]+)/[a-z]*)", path)
     if looks is not None:
         is_known = record.page is not None and record.looks and looks["token"] == record.looks

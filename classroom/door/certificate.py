@@ -45,7 +45,7 @@ def refusal_of(name: str) -> str:
 
 def make_if_missing(file: Path, name: str) -> str:
     """Makes a certificate for a host's name if the file doesn't exist. Returns the fingerprint of the file's
-    certificate. Raises `Fault` if that isn't possible."""
+    certificate. Raises `Fault` if the certificate can't be made or read."""
     if not os.path.lexists(file):
         make(file, name)
     return fingerprint(file)
@@ -53,7 +53,8 @@ def make_if_missing(file: Path, name: str) -> str:
 
 def make(file: Path, name: str) -> None:
     """Makes a file with a new key and a certificate for a host's name. Only its owner can read the file. Raises `Fault`
-    if that isn't possible."""
+    if a certificate can't have this name, if `openssl` is missing or fails, or if the file exists already or can't be
+    written."""
     if shutil.which("openssl") is None:
         raise Fault(f"{file}: the door has no certificate yet, and the program openssl, which makes one, isn't installed. Install it, or name a file with "
                     "a key and its certificate by --certificate FILE", FAILED)
@@ -69,8 +70,8 @@ def make(file: Path, name: str) -> None:
 
 
 def fingerprint(file: Path) -> str:
-    """Returns the SHA-256 of the first certificate in a file, as 64 hexadecimal digits. Raises `Fault` if there is
-    none."""
+    """Returns the SHA-256 of the first certificate in a file, as 64 hexadecimal digits. Raises `Fault` if the file has
+    none, or if one of the two can't be read."""
     try:
         found = BLOCK.search(file.read_text(encoding="utf-8", errors="replace"))
     except OSError as error:

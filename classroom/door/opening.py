@@ -143,8 +143,8 @@ def reopen(folder: Path, tell: Callable[[str], None]) -> OpenDoor | None:
 
 
 def slips_of(lab: Path) -> list[Slip]:
-    """Returns the students' slips of the lab in the file `lab`: those in the folder NAME-slips beside it, sorted by
-    file name. Leaves out files that can't be read."""
+    """Returns the students' slips of the lab in the file `lab`: those in the folder beside it that has the lab's name
+    with `-slips`, sorted by file name. Leaves out files that can't be read."""
     found = []
     for file in sorted(lab.with_name(f"{lab.stem}-slips").glob("*.slip")):
         try:
@@ -156,7 +156,7 @@ def slips_of(lab: Path) -> list[Slip]:
 
 def route_to(folder: Path, lab: Path, run: Path) -> None:
     """Makes the door in `folder` forward connections for the network of the lab in the file `lab` to the run in the
-    folder `run`. The students' slips have the host names by which students come."""
+    folder `run`. The door then also accepts requests for the host names in the students' slips."""
     hosts = {door_of(slip.door)[0] for slip in slips_of(lab) if slip.door}
     announce(folder, network(lab), run, sorted(hosts))
 

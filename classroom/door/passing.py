@@ -22,8 +22,8 @@ BROKEN = (OSError, EOFError, TimeoutError, asyncio.LimitOverrunError)
 
 @dataclass
 class Door:
-    """The objects that all connections of a door share. `hosts` are the names under which requests for pages may
-    come."""
+    """The objects that all connections of a door share, and its port. `hosts` are the names under which requests for
+    pages may come."""
 
     routes: Routes
     bounds: Bounds
@@ -69,7 +69,8 @@ async def secure_counted(sock: socket.socket, origin: str, door: Door) -> Secure
 
 @dataclass
 class Passing:
-    """A TLS connection after its handshake, with the origin by which it is counted."""
+    """A TLS connection after its handshake, with the origin by which it is counted. Its methods raise one of the errors
+    in BROKEN if a connection breaks or is too slow."""
 
     it: Secured
     origin: str

@@ -1,6 +1,7 @@
 """The networks of a class that a door forwards connections to, and the ports of each, which are in the folder of its
 run. A *door* is the port at which students on other machines connect. The folder of a door has a file for each network,
-a *route*."""
+a *route*. A *slip* is the file with what a student needs to connect, and a page's *token* is the random text in its
+address."""
 from __future__ import annotations
 
 import json

@@ -1,4 +1,5 @@
-"""A TLS connection whose two directions end separately.
+"""A TLS connection whose two directions end separately. It is one of those that a *door* accepts, the TLS port at which
+students on other machines connect.
 
 asyncio's own TLS closes a connection as soon as the other end has announced that it sends nothing more. asyncio then
 drops the bytes that weren't sent yet. Here the other end gets all of them.

@@ -76,7 +76,8 @@ class Serving:
         self.patience = 0.0
 
     async def run(self) -> None:
-        """Serves until no network's run has continued for `patience` seconds, and then lets connections end."""
+        """Serves until no network's run has gone on for the last `patience` seconds. Then closes the listening socket,
+        and waits at most LAST_WORD seconds for the end of the open connections."""
         asyncio.get_running_loop().add_signal_handler(signal.SIGTERM, self.hurry)
         accepting = asyncio.ensure_future(self.accept())
         silent = 0.0
@@ -96,7 +97,8 @@ def own_names() -> set[str]:
 
 def serve(folder: Path, listener: socket.socket) -> None:
     """Serves the door in a folder to its end, at the listening socket `listener`. Writes the number of this process
-    into the folder. Exits with an error line if the folder has no door."""
+    into the folder. Exits with an error line if the folder has no door. Raises `Fault` if its certificate can't be
+    used."""
     kept = DoorData.read(folder)
     if kept is None:
         raise SystemExit(f"{folder / DOOR}: this file is missing or damaged, so the door can't be opened")

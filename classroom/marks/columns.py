@@ -1,5 +1,6 @@
 """The columns of the table of marks, each with one line that explains it, and their values for a *rule*, a teacher's
-file that computes grades from columns."""
+file that computes grades from columns. A *clause* is one of the numbered conditions under which a request is granted,
+and the *record* of a run has the lines of its connections."""
 from __future__ import annotations
 
 from collections.abc import Mapping, Sequence

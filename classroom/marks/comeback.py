@@ -1,9 +1,9 @@
 """The recoveries of a class: the counts from each fault, link or cut to the next stable configuration, in which no node
-is privileged.
+is privileged. A node is *privileged* if a rule can be applied there.
 
 The marks have the counts of the proved program, by its tally of the journal up to that configuration. While a run goes
 on, `Comeback` counts along its reports, which list the privileged nodes. An *edit* is a fault, a link or a cut, and a
-*close* applies the chosen moves.
+*close* applies the chosen moves, those that were granted. A *place* is the number of an event.
 """
 from __future__ import annotations
 

@@ -1,8 +1,8 @@
 """`./class history`: what a student's connections sent, the replies, and the steps between them.
 
 A *record* has the lines and replies of all connections, as entries. A *session* is one connection's entries, and a
-*seat* serves one session after another. A *place* is the number of an event in the journal. Keys are hidden in all
-texts. A parameter `said` is a session.
+*seat* serves one session after another. A *place* is the number of an event in the journal, the file that lists the
+run's events. Keys are hidden in all texts. A parameter `said` is a session.
 """
 from __future__ import annotations
 
@@ -174,10 +174,10 @@ def merged(lines: list[Row], between: list[Row]) -> list[Row]:
     return sorted([*between, *lines], key=lambda row: (row.at, row.seat > 0))
 
 
-def text(told: list[str], rows: list[Row]) -> str:
-    """Returns the history as text for people: first the given lines, which are about the records and their verdicts,
-    and then the rows."""
-    lines = [*told]
+def text(verdicts: list[str], rows: list[Row]) -> str:
+    """Returns the history as text for people: first the lines in `verdicts`, each about a record and its verdict, and
+    then the rows."""
+    lines = [*verdicts]
     for row, count in grouped(rows):
         head = f"  {row.after()}, seat {row.seat}{times(count)}"
         if not row.seat:
@@ -207,13 +207,13 @@ def cells(row: Row) -> list[str]:
     return list(map(guarded, every))
 
 
-def section(title: str, told: list[str], rows: list[Row], why: dict[tuple[int, str], str] | None = None) -> str:
-    """Returns a section of the player's page as HTML: the heading `title`, the given lines, which are about the
-    records, and the rows. Each row links to its place. `why` has the reasons of denied moves, by the number of events
+def section(title: str, verdicts: list[str], rows: list[Row], why: dict[tuple[int, str], str] | None = None) -> str:
+    """Returns a section of the player's page as HTML: the heading `title`, the lines in `verdicts`, each about a
+    record, and the rows. Each row links to its place. `why` has the reasons of denied moves, by the number of events
     before the move and its line."""
     items = [f'<li><a href="#p={row.at}">{row.after()}</a> {item(row, count)}{reason((why or {}).get((row.place, row.asked), ""))}</li>'
              for row, count in grouped(rows)]
-    heads = "".join(f"<p>{escape(line)}</p>" for line in told)
+    heads = "".join(f"<p>{escape(line)}</p>" for line in verdicts)
     text = f'<h2>{escape(title)}</h2>{heads}<ol>{"".join(items)}</ol>'
     return f'<section class="history" aria-label="history">{text}</section>'
 
@@ -237,15 +237,16 @@ def guard_denials(rows: list[Row]) -> list[tuple[int, str]]:
     return [(row.place, row.asked) for row in rows if row.denied == GUARD]
 
 
-def own_page(title: str, name: str, lab_file: Path, journal: Path, told: list[str], lines: list[Row]) -> str:
+def own_page(title: str, name: str, lab_file: Path, journal: Path, verdicts: list[str], lines: list[Row]) -> str:
     """Returns the page of the run with this lab and journal for the student `name`, as HTML. Beside the player it has
-    the given lines, which are about the records, and the rows in `lines`, which have what the student sent. A denial by
-    a guard has the part of the guard that failed beside it. `title` is the page's title."""
+    the lines in `verdicts`, each about a record, and the rows in `lines`, which have what the student sent. A denial by
+    a guard has the part of the guard that failed beside it. `title` is the page's title. Raises `Fault` if the audit
+    refuses the journal."""
     kept_layout.load(lab_file.parent)
     lab, frames = frames_of(lab_file, journal)
     happened = events(journal.read_text(encoding="ascii"))
     rows = with_steps(lab, happened, name, lines)
-    return Played(lab, frames).page(title, section(f"What {name} sent", told, rows, reasons(lab, happened, guard_denials(lines))))
+    return Played(lab, frames).page(title, section(f"What {name} sent", verdicts, rows, reasons(lab, happened, guard_denials(lines))))
 
 
 def with_steps(lab: labs.Lab, journal: list[Event], name: str, lines: list[Row]) -> list[Row]:
@@ -278,11 +279,11 @@ def history(words: argparse.Namespace) -> int:
             raise Fault(f"{run}: this run has no record, so what the students sent isn't known")
         refused = [part for part in parts if part.status]
         if refused:
-            raise Fault(refused[0].told(), refused[0].status)
-        told = [part.told() for part in parts]
+            raise Fault(refused[0].verdict_line(), refused[0].status)
+        verdicts = [part.verdict_line() for part in parts]
         lines = rows_of(sessions_of(parts), name, hider_of(parts, lab))
         if words.output:
-            page = own_page(f"{name}: {folders.title(lab_file, journal)}", name, lab_file, parts[-1].journal, told, lines)
+            page = own_page(f"{name}: {folders.title(lab_file, journal)}", name, lab_file, parts[-1].journal, verdicts, lines)
             Path(words.output).write_text(page, encoding="utf-8")
             print(f"the page is written to {words.output} ({len(page.encode())} bytes)")
             return 0
@@ -290,5 +291,5 @@ def history(words: argparse.Namespace) -> int:
         if words.csv:
             csv.writer(sys.stdout, lineterminator="\n").writerows([HEADS, *map(cells, rows)])
         else:
-            print(text(told, rows), end="")
+            print(text(verdicts, rows), end="")
     return 0

@@ -1,8 +1,8 @@
 """`./class mark`: the marks of each student from the journals of runs.
 
 A *journal* has the granted events of a run, and a *record* all lines and replies of its connections. A *rule* is a
-teacher's file that computes grades from marks. The *tally* is what the proved program counts in a journal. A
-*shared* node has two owners.
+teacher's file that computes grades from marks. The *tally* is what the proved program counts in a journal. A *shared*
+node has two owners, and a *clause* is one of the numbered conditions under which a request is granted.
 """
 from __future__ import annotations
 
@@ -137,7 +137,7 @@ def by_node(shared: dict[int, dict[str, Counter[str]]]) -> dict[str, dict[str, d
     return {str(node): {name: dict(moves) for name, moves in owners.items()} for node, owners in shared.items()}
 
 
-def marked(lab_file: Path, journal: Path) -> Run:
+def run_of_journal(lab_file: Path, journal: Path) -> Run:
     """Returns the run of the journal of a lab, with its tally and the verdicts on its records. Raises `Fault` if the
     lab or the journal is refused, if the run is still going on, or if the program contradicts itself."""
     try:
@@ -154,12 +154,13 @@ def marked(lab_file: Path, journal: Path) -> Run:
     if report["stable"] != told.stable:
         raise Fault(f"{journal}: two counts of mml, `tally` and `report`, disagree, which is an error of the program. Don't use these marks, "
                     "and report this error to its developers", 4)
-    return Run(lab_file, journal, lab, report["pairs"], told, recorded(journal))
+    return Run(lab_file, journal, lab, report["pairs"], told, record_verdicts(journal))
 
 
-def recorded(journal: Path) -> list[Recorded]:
+def record_verdicts(journal: Path) -> list[Recorded]:
     """Returns the verdicts on the records in the folder of a run, which has the journal. If the journal isn't in the
-    folder of a run with a record, returns only NONE, the verdict that there is no record."""
+    folder of a run with a record, returns only NONE, the verdict that there is no record. Raises `Fault` if a file of
+    the run can't be read, or if the program can't count the lines of a record."""
     if journal.name != "journal" or not record.kept(journal.parent):
         return [NONE]
     with vouched(journal.parent) as parts:
@@ -232,7 +233,7 @@ def shared(run: Run) -> list[str]:
 def text(runs: list[Run], rule: Rule | None = None) -> str:
     """Returns the marks as text for people: for each run a line about it, the verdicts on its records, its table, its
     shared nodes and its recoveries. The table has the results of the rule if one is given. At the end are the notes in
-    UNTOLD."""
+    UNTOLD. Raises `Fault` if the recoveries can't be counted."""
     lines = []
     for run in runs:
         # The columns of the journal and the network are left out, since their values are the same in each row.
@@ -263,7 +264,7 @@ def mark(words: argparse.Namespace) -> int:
     roster = lists.read(Path(words.roster), words) if words.roster else None
     given = classes.given(words.runs)
     differ = words.second and second.compare(given)
-    runs = [marked(lab, journal) for lab, journal in given]
+    runs = [run_of_journal(lab, journal) for lab, journal in given]
     students = [totals.Marked(run.lab, run.network, run.tally.students, run.asked) for run in runs]
     refused = [f"{run.journal}: {it.line}" for run in runs for it in run.records if it.is_refused]
     for line in refused:

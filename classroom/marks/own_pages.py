@@ -1,5 +1,5 @@
 """The page of each student's own run, which is written into the run's folder at its end. The page shows the student's
-lines beside the player."""
+lines beside the player. A *record* has the lines that the connections of a run sent, with their replies."""
 from __future__ import annotations
 
 from collections.abc import Callable
@@ -28,16 +28,16 @@ def rows_by_student(folder: Path, lab: labs.Lab) -> tuple[list[str], dict[str, l
             return [], {}
         every, hider = sessions_of(parts), hider_of(parts, lab)
         found = {name: rows_of(every, name, hider) for name in lab.students}
-        return [part.told() for part in parts], {name: rows for name, rows in found.items() if rows}
+        return [part.verdict_line() for part in parts], {name: rows for name, rows in found.items() if rows}
 
 
 def write_pages(folder: Path, tell: Callable[[str], None]) -> None:
     """Writes a page for each student who sent something in the run in `folder`. The page shows each denial at its
     moment. If the pages would take too much room, writes none and calls `tell` with a line about how to make one.
-    Raises `Fault` if the lab or the run can't be read."""
+    Raises `Fault` if the lab or the run can't be read, and `OSError` if a page can't be written."""
     lab_file, journal = folder / "lab.toml", folder / "journal"
     lab = labs.read(lab_file)
-    told, every = rows_by_student(folder, lab)
+    verdicts, every = rows_by_student(folder, lab)
     if not every:
         return
     happened = events(journal.read_text(encoding="ascii"))
@@ -48,6 +48,6 @@ def write_pages(folder: Path, tell: Callable[[str], None]) -> None:
     why = reasons(lab, happened, [each for rows in every.values() for each in guard_denials(rows)])
     (folder / FOLDER).mkdir(0o700, exist_ok=True)
     for name, lines in every.items():
-        more = section(f"What {name} sent", told, with_steps(lab, happened, name, lines), why)
+        more = section(f"What {name} sent", verdicts, with_steps(lab, happened, name, lines), why)
         page = played.page(f"{name}: {folders.title(lab_file, journal)}", more)
         (folder / FOLDER / f"{name}.html").write_text(page, encoding="utf-8")

@@ -1,5 +1,5 @@
-"""A second opinion on marks: the plain model (`model/`) computes them from the same journals and records as the
-proved program."""
+"""A second opinion on marks: the plain model (`model/`) computes them from the same journals and records as the proved
+program. A *record* has the lines that the connections of a run sent, with their replies."""
 from __future__ import annotations
 
 import subprocess
@@ -23,7 +23,8 @@ def model_call(word: str, *files: Path) -> Answer:
 
 def difference(word: str, *files: Path) -> str:
     """Returns a text with the first line in which the proved program and the model differ for the command `word` and
-    its files. Returns an empty text if their output and status are the same."""
+    its files. Returns an empty text if their output and status are the same. Raises `Fault` if the proved program isn't
+    built."""
     proved, plain = host_call(word, *files), model_call(word, *files)
     if proved == plain:
         return ""
@@ -37,7 +38,7 @@ def differences(lab: Path, journal: Path) -> list[str]:
     """Returns a line for each difference in a run: in its tally, and in each record in its folder.
 
     Copies the journal first, since both programs must read the same bytes while the run continues. Leaves out a record
-    that can't be copied."""
+    that can't be copied. Raises `Fault` if the proved program isn't built, or if a file of the run can't be read."""
     found = []
     with tempfile.TemporaryDirectory() as room:
         copy = Path(room) / "journal"
@@ -52,7 +53,8 @@ def differences(lab: Path, journal: Path) -> list[str]:
 
 def compare(runs: list[tuple[Path, Path]]) -> bool:
     """Prints on standard error whether the proved program and the model agree about these runs, each a lab and a
-    journal. Returns whether they differ."""
+    journal. Returns whether they differ. Raises `Fault` if the proved program isn't built, or if a file of a run can't
+    be read."""
     lines = [line for lab, journal in runs for line in differences(lab, journal)]
     for line in lines or ["the plain model gets the same counts"]:
         print(printable(f"class: {line}"), file=sys.stderr)

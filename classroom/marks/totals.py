@@ -117,9 +117,10 @@ def by_labs(runs: Runs, rule: Rule | None = None) -> list[list[str]]:
 
 
 def by_roster(runs: Runs, roster: People, rule: Rule | None = None) -> tuple[list[list[str]], list[str]]:
-    """Returns the table of the class list `roster`, with the totals over these runs, and the results of a rule, after
-    each of its rows. A row without a person gets empty cells there. Also returns the names, as in the class list of the
-    labs, of the persons in the labs whom `roster` lacks."""
+    """Returns the class list `roster` as a table. To each of its rows, cells are added with the person's totals over
+    these runs and the results of a rule, if there is one. The totals of a person whom no lab has are 0. A row without a
+    person gets empty cells. Also returns the names, as in the labs' own class lists, of the persons in the labs whom
+    `roster` lacks."""
     left = summed(runs)
     heads, names = roster.heads or ["name"], rule.names if rule else []
     rows = [[*heads, *HEADS, *names]]

@@ -2,8 +2,8 @@
 with the journal so far.
 
 A *record* has a file of entries for each seat, which serves one session after another. An *entry* is a line with its
-reply, or a mark, and has the number of events before it. The record of a server that was killed may lack its last
-entries.
+reply, or a mark, and has the number of events before it. The *journal* lists the events of the run, and a *place* is
+the number of an event. The record of a server that was killed may lack its last entries.
 """
 from __future__ import annotations
 
@@ -53,7 +53,7 @@ class Vouched:
         """Returns whether all files of the record could be copied."""
         return self.journal.is_file()
 
-    def told(self) -> str:
+    def verdict_line(self) -> str:
         """Returns the line about the record and its verdict."""
         return f"{self.record}: {self.line}"
 
@@ -152,10 +152,10 @@ def vouch(record: Path, into: Path, journal: bytes, is_whole: bool, lives: bool)
             return Vouched(record, into, LAB, "this record was made with another lab than the file lab.toml of this run", is_whole)
     except Fault as fault:
         return Vouched(record, into, fault.status, str(fault), is_whole)
-    answer = verified(into)
+    answer = verify(into)
     if answer.status and not is_whole:
         mark_incomplete(into)
-        answer = verified(into)
+        answer = verify(into)
     line = verdict(answer)
     return Vouched(record, into, answer.status, line if is_whole else f"{line}: {UNENDED}", is_whole, not is_whole and lives)
 
@@ -179,6 +179,7 @@ def has_lab_of(run: Path, copy: Path) -> bool:
         return False
 
 
-def verified(copy: Path) -> Answer:
-    """Runs the command `verify` for the copy of a record. Returns its output and status."""
+def verify(copy: Path) -> Answer:
+    """Runs the command `verify` for the copy of a record. Returns its output and status. Raises `Fault` if the program
+    isn't built."""
     return host_call("verify", copy / "lab", copy / "journal", copy)

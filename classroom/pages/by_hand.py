@@ -20,7 +20,7 @@ from classroom.client import Client, Closed, Denied, Refused, wrong_keys
 from classroom.core.lab import Lab
 from classroom.pages.page import assembled
 from classroom.pages.seat import Seat
-from classroom.pages.web import PageRequest, Web, opened
+from classroom.pages.web import PageRequest, Web, at_free_port
 
 PAUSE = 0.25  # seconds between two looks
 STILL_HERE = 10.0  # seconds without news after which a page gets a line that there are none
@@ -59,7 +59,7 @@ class PlayServer(Web):
     @contextmanager
     def keeping_seat(self, seat: Seat) -> Iterator[str]:
         """Keeps a seat in the table of seats, and its student's name in `names`, while its page is open. Yields the
-        token by which that page names its seat."""
+        token, a new random text by which that page names its seat."""
         token, port = secrets.token_urlsafe(16), seat.client.own_port()
         with self.turn:
             self.seats[token], self.names[port] = seat, f"{seat.name}, by hand"
@@ -196,4 +196,4 @@ def last_word(seat: Seat) -> str:
 def open_play_page(port: int, title: str, lab: Lab) -> PlayServer:
     """Returns the server of the page on which the students of `lab` play, with this title. It listens at `port` or the
     next free one, and doesn't answer yet. Raises `Fault` if no port is free."""
-    return opened(port, lambda number: PlayServer(number, title, lab))
+    return at_free_port(port, lambda number: PlayServer(number, title, lab))

@@ -1,8 +1,8 @@
 """A configuration as SVG. The page's script changes the same elements when it shows the next one.
 
 A *place* is the number of events up to a configuration, and a *state* has all values at a place. A *privileged* node
-has an enabled rule, an *open* link joins two nodes without a partner, and its *witness* is a node near it that can
-move.
+has an enabled rule, and a granted move is *chosen* until a step applies it. An *open* link joins two nodes without a
+partner, and its *witness* is a node near it that can move.
 """
 from __future__ import annotations
 
@@ -42,7 +42,8 @@ class Drawing:
 
     @property
     def measures(self) -> dict[str, float]:
-        """Returns all sizes and line widths by their names. All of them depend on the radius of a node."""
+        """Returns all sizes and line widths by their names. Most of them depend on the radius of a node, and those of
+        names and rules on the size of their letters."""
         radius, form = self.view.layout.radius, self.view.form
         plain = {
             "radius": radius, "ring": 1.28 * radius, "ringLine": max(1.5, 0.14 * radius), "discLine": max(1.2, 0.1 * radius),

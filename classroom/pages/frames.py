@@ -1,7 +1,7 @@
 """A journal as frames: the program's replies when the events of a journal are asked for again. Every value in a frame
 was read from a reply. A *frame* is the state of the run after an event, and a *place* is the number of events up to it.
-The replies to a *look* and to the request for the *report* have the values of a node and of the whole configuration.
-Long journals are replayed in *parts* (`classroom.pages.replay`)."""
+A granted move is *chosen* until a step applies it. The replies to a *look* and to the request for the *report* have the
+values of a node and of the whole configuration. Long journals are replayed in *parts* (`classroom.pages.replay`)."""
 from __future__ import annotations
 
 from collections.abc import Iterator

@@ -30,7 +30,7 @@ from classroom.pages.drawing import drawing_of
 from classroom.pages.layout import FLAT
 from classroom.pages.page import assembled, data_element
 from classroom.pages.two_addresses import STILL_HERE, AtAddress, TwoAddresses
-from classroom.pages.web import opened as web_opened
+from classroom.pages.web import at_free_port
 
 LISTED = 25  # the most lines that the page shows
 LAST_WORD = 2.0  # seconds that pages have to receive the news that the class is over
@@ -48,7 +48,7 @@ class Hall(TwoAddresses):
         first state that is shown, and `looks` the token of the address to look at, if it has one already. `views`
         returns the positions of each network's nodes. `views` is called for each page, since the search for a layout
         may take a second. Raises `OSError` if the port is taken."""
-        super().__init__(port, Page, title, looks)
+        super().__init__(port, HallRequest, title, looks)
         self.act, self.views = act, views
         self.turn = threading.Condition()
         self.texts = {self.looks: text(state), self.acts: text(state)}
@@ -80,7 +80,7 @@ class Hall(TwoAddresses):
         self.close_after(LAST_WORD)
 
 
-class Page(AtAddress):
+class HallRequest(AtAddress):
     """A request at one of the two addresses."""
 
     server: Hall
@@ -143,12 +143,12 @@ def hall_page(title: str, state: str, views: Views, acts: bool) -> tuple[str, st
     return assembled("hall", parts, "", ("drawing.css", "hall.css"), ("hall.js",))
 
 
-def opened(port: int, title: str, act: Callable[[str], None], state: ClassState, looks: str | None = None,
-           views: Callable[[], Views] = list) -> Hall:
+def open_hall(port: int, title: str, act: Callable[[str], None], state: ClassState, looks: str | None = None,
+              views: Callable[[], Views] = list) -> Hall:
     """Returns the server of the page with this title, which listens at a port or the next free one and answers from now
     on. `act` handles a line of the teacher, and `views` returns the positions of each network's nodes. `state` is the
     first state that is shown. `looks` is the token of the address to look at if the class continues, and otherwise
     None. Raises `Fault` if no port is free."""
-    it = web_opened(port, lambda number: Hall(number, title, act, state, looks, views))
+    it = at_free_port(port, lambda number: Hall(number, title, act, state, looks, views))
     it.open()
     return it

@@ -20,7 +20,7 @@ from classroom.pages.frames import Frame
 from classroom.pages.page import Frames, live_page
 from classroom.pages.two_addresses import STILL_HERE, AtAddress, TwoAddresses, new_token
 from classroom.pages.watch import Now, Present
-from classroom.pages.web import opened
+from classroom.pages.web import at_free_port
 
 LISTED = 25  # the most events and lines that a page gets at once
 LAST_WORD = 5.0  # seconds that pages have to receive the news that the run is over
@@ -33,7 +33,7 @@ class Pages(TwoAddresses):
         """Listens at the port, but doesn't answer before `show`. `title` is the page's title, and `lab` that of the
         run. Lines of the teacher are put into `typed`, and `looks` is the token of the address to look at, if it has
         one already. Raises `OSError` if the port is taken."""
-        super().__init__(port, Page, title, looks)
+        super().__init__(port, PagesRequest, title, looks)
         self.lab, self.typed = lab, typed
         self.drawing = drawing_of(lab.without_house(), lab.links)
         self.present: Present | None = None
@@ -58,7 +58,7 @@ class Pages(TwoAddresses):
         self.close_after(LAST_WORD)
 
 
-class Page(AtAddress):
+class PagesRequest(AtAddress):
     """A request at one of the two addresses."""
 
     server: Pages
@@ -118,4 +118,4 @@ def open_pages(port: int, title: str, lab: Lab, typed: queue.SimpleQueue[str], l
     """Returns the server of the page of a lab's run, with this title. It listens at a port or the next free one, and
     doesn't answer yet. Lines of the teacher are put into `typed`, and `looks` is the token of the address to look at,
     if the run had one before. Raises `Fault` if no port is free."""
-    return opened(port, lambda number: Pages(number, title, lab, typed, looks))
+    return at_free_port(port, lambda number: Pages(number, title, lab, typed, looks))

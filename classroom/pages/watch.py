@@ -138,7 +138,8 @@ class Watch:
             return
         last = self.events[-1]
         number = last.at + last.makes_configuration
-        # Such an event leaves the number as it is, so the number in a look doesn't show whether the event has taken effect.
+        # A grant or a release leaves the number as it is, so the number in a look doesn't show whether the event has taken
+        # effect.
         if any(event.kind in ("grant", "release") for event in self.events):
             self.wait_for_server()
         if report.at != number or self.look() != {number}:

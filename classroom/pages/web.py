@@ -163,7 +163,7 @@ class PageRequest(BaseHTTPRequestHandler):
         self.end_headers()
 
 
-def opened(port: int, make: Callable[[int], Opened]) -> Opened:
+def at_free_port(port: int, make: Callable[[int], Opened]) -> Opened:
     """Returns the server that `make` returns for a port: this one, or the next free one. `make` raises `OSError` if the
     port is taken. Raises `Fault` if no port is free."""
     def at(number: int) -> Opened | None:

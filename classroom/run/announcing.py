@@ -3,7 +3,8 @@ more is granted.
 
 A *privileged* node has an enabled rule. A *grant* is the event of a move, which is then *chosen* until a *close*, the
 end of a step, applies it. The class *waits* for a node that is privileged and has no chosen move. A *recovery* is the
-part of a run from a fault, link or cut to the next stable configuration.
+part of a run from a fault, link or cut to the next stable configuration. The *report* is the server's reply about the
+present configuration, and the *journal* is the file with the run's events.
 """
 from __future__ import annotations
 

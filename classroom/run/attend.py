@@ -1,5 +1,5 @@
 """A run from its first step to its last: steps are closed, and typed commands are run. The module also watches the room
-for the journal, on the disk and by the limit on the size of files.
+for the *journal*, the file with the run's events: on the disk, and by the limit on the size of files.
 
 The *desk* is the teacher's connection to the server, and the *daemon* decides when a step is closed. The *house* plays
 for absent students. The functions return the reason for the end of a run as a word, which is empty while the run

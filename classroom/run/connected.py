@@ -1,6 +1,7 @@
 """The connections to a port of this machine, as far as the system reports them (only on Linux). A connection has two
 *ends*, the server's and the client's, each a socket with a port and a number. A connection takes a *seat* at the
-server."""
+server. The *desk* is the teacher's own connection, and the *record* is what the server keeps about the connections and
+their requests."""
 from __future__ import annotations
 
 import os

@@ -57,7 +57,7 @@ def daemons(word: str) -> list[Daemon]:
 @dataclass(frozen=True)
 class Sight:
     """The state that a daemon decides by: the privileged nodes, the chosen moves in the order of their grants, and the
-    seconds since the last grant and the last close."""
+    seconds since the last event and since the last close."""
 
     privileged: Sequence[int]
     chosen: Sequence[int]
@@ -71,7 +71,7 @@ class Sight:
 
 def heads(nodes: Sequence[int], probability: float, chance: random.Random) -> list[int]:
     """Tosses a coin for each node. A coin shows heads with this probability. Returns the nodes with heads, or one
-    random node if no coin shows heads."""
+    random node if no coin shows heads. `chance` tosses the coins and chooses this node."""
     found = [node for node in nodes if chance.random() < probability]
     return found or [chance.choice(list(nodes))]
 
@@ -80,8 +80,10 @@ def applied(how: Daemon, sight: Sight, chance: random.Random, patience: float, s
     """Returns the nodes whose moves a close under the daemon `how` applies now, or none if no step is closed yet.
     `sight` has what the daemon decides by. The other chosen moves are released before the close. The central daemon
     applies the move that was granted first. The random daemon tosses coins with `chance`, and the schedule and the
-    adversary call `search`. These three wait until each privileged node has a chosen move, or none was granted for
-    `patience` seconds. Under `by-hand` only the teacher closes steps."""
+    adversary call `search`. These three wait until each privileged node has a chosen move, or no event came for
+    `patience` seconds. The other daemons apply all chosen moves. The synchronous one also waits for all privileged
+    nodes, and `every` and `when-idle` wait for their number of seconds. Under `by-hand` only the teacher closes
+    steps."""
     if not sight.chosen:
         return []
     if how.kind == "central":
@@ -99,9 +101,10 @@ def applied(how: Daemon, sight: Sight, chance: random.Random, patience: float, s
 
 
 def movers(how: Daemon, privileged: Sequence[int], chance: random.Random, search: Search = list) -> list[int]:
-    """Returns those of the nodes in `privileged` that move in the next step under the daemon `how`, if each of them
-    asks at once, as in an experiment. `chance` makes the random choices. The schedule and the adversary choose by
-    calling `search`."""
+    """Returns those of the nodes in `privileged` that move in the next step of an experiment under the daemon `how`.
+    Under the central daemon this is a random one, under the random daemon those whose coins show heads, and under a
+    timed one those that ask in time (`in_time`). The schedule and the adversary choose by calling `search`. Under any
+    other daemon all of them move. `chance` makes the random choices."""
     if how.kind == "central":
         return [chance.choice(list(privileged))]
     if how.kind == "random":
@@ -112,9 +115,9 @@ def movers(how: Daemon, privileged: Sequence[int], chance: random.Random, search
 
 
 def in_time(how: Daemon, nodes: Sequence[int], chance: random.Random) -> list[int]:
-    """Simulates one step under a timed daemon. Each node asks after a random time, one second on average. Returns the
-    nodes that have asked when the step is closed. Under `every`, that is at the first tick after a request. Under
-    `when-idle`, it is when no node has asked for `how.value` seconds."""
+    """Simulates one step under a timed daemon. Each node asks after a random time, which `chance` draws: one second on
+    average. Returns the nodes that have asked when the step is closed. Under `every`, that is at the first tick after a
+    request. Under `when-idle`, it is when no node has asked for `how.value` seconds."""
     asks = sorted((chance.expovariate(1.0), node) for node in nodes)
     first = end = asks[0][0]
     if how.kind == "every" and how.value:

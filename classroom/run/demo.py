@@ -1,4 +1,5 @@
-"""`./class demo`: a whole class on this machine, with programs that play the students."""
+"""`./class demo`: a whole class on this machine, with programs that play the students. A *slip* is a file with what a
+student's program needs to connect."""
 from __future__ import annotations
 
 import argparse

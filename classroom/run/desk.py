@@ -4,7 +4,7 @@ show how the run goes on.
 The *house* plays for absent students. A *privileged* node has an enabled rule, and a granted move is *chosen* until a
 *close*, the end of a step, applies it. The class *waits* for a node that is privileged and has no chosen move. The
 *daemon* decides when a step is closed and which moves it applies. The *report* is the server's reply about the present
-configuration.
+configuration, and the *journal* is the file with the run's events.
 """
 from __future__ import annotations
 
@@ -81,7 +81,8 @@ class Desk:
         return self.known.client
 
     def reconnect(self) -> bool:
-        """Connects to the desk again if its connection was lost. Returns whether the desk is connected now."""
+        """Connects to the desk again if its connection was lost. Returns whether the desk is connected now. Raises
+        `Denied` if the server denies the hello."""
         if not self.lost:
             return True
         try:
@@ -238,7 +239,7 @@ class Desk:
     def house_for(self, name: str) -> House:
         """Returns the house, for a command about its playing the nodes of the student `name`. Raises `ValueError` with
         the reason if there is no house or it can't play."""
-        if self.house is None and self.lab.held():
+        if self.house is None and self.lab.house_nodes():
             raise ValueError("the house can't play, because this run was started with --serve. Start the next run without it")
         if self.house is None:
             raise ValueError(f"the house can't play for {name}, because it owns no node in this lab. {HOW}")

@@ -58,7 +58,7 @@ def finish(folder: Path, tell: Callable[[str], None], brief: bool = False) -> in
         (folder / "audit.txt").write_text(answer.output + answer.error + "\n" * bool(answer.error), encoding="utf-8")
         (folder / "run.html").write_text(play.page(folder / "lab.toml", folder / "journal"), encoding="utf-8")
         kept_layout.save(folder, labs.read(folder / "lab.toml"))
-        run = mark.marked(folder / "lab.toml", folder / "journal")
+        run = mark.run_of_journal(folder / "lab.toml", folder / "journal")
         text = mark.text([run])
         tell(f"the marks are in {folder / 'marks.txt'}" if brief else text.rstrip())
         (folder / "marks.txt").write_text(text, encoding="utf-8")

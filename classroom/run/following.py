@@ -110,7 +110,7 @@ class Follower:
 
     def ask_report(self) -> None:
         """Asks for the report, and keeps it in `report`. If the server is out of memory, leaves the old one there and
-        sets `is_old`, so that `news` asks again. Raises any other refusal, `Refused`."""
+        sets `is_old`, so that `news` asks again. Raises `Refused` for any other refusal."""
         try:
             self.report = self.client.report()
             self.is_old = False

@@ -2,7 +2,7 @@
 
 The *record* has a file of entries for each *seat*, which serves one connection after another. An *entry* is a line with
 its reply, or a mark. A *place* is the number of an event, and the last *step* is the last event that made a
-configuration.
+configuration. The *desk* is the teacher's connection, with the terminal at which the lines are printed.
 """
 from __future__ import annotations
 
@@ -42,7 +42,7 @@ class Seat:
         """Returns the bytes that the file at a path has gained since the last read, at most MOST. Returns none if it
         can't be read."""
         try:
-            with plain.opened(path) as it:
+            with plain.open_plain(path) as it:
                 it.seek(self.at)
                 found = it.read(MOST) or b""
         except (Fault, OSError):

@@ -1,9 +1,10 @@
 """The desk of a run, from its greeting to the end of the run. `run` uses this module, and so does every command that
 continues a run.
 
-The *desk* is the teacher's connection to the server. `run.json` in the folder of a run is its *record*, by which other
-processes find it. A server is *hosted* if it is `mml host`, which has a port for the desk and ends after the teacher's
-bye. An exit status of None means that the run continues without this process.
+The *desk* is the teacher's connection to the server. The *house* is a program that plays for absent students.
+`run.json` in the folder of a run is its *record*, by which other processes find it. A server is *hosted* if it is `mml
+host`, which has a port for the desk and ends after the teacher's bye. An exit status of None means that the run
+continues without this process.
 """
 from __future__ import annotations
 
@@ -114,7 +115,8 @@ class Running:
 def open_desk(it: server.Server, run: Running) -> Desk:
     """Writes the record into the run's folder, connects to the desk of the server `it`, and returns the desk with its
     house, its clock and its watch on connections. Catches up with a run that continues. Raises `Left` if another
-    process wants the desk, and `Closed`, `Refused` or `Denied` if it can't be connected to."""
+    process wants the desk, `Closed`, `Refused` or `Denied` if it can't be connected to, and `OSError` if the journal
+    can't be opened."""
     run.record(it).write(run.folder)
     client = take_desk(it, run.lab.teacher, run.typed, run.tell, run.note_hung)
     desk = Desk(run.lab, run.folder / "journal", client, run.close, run.tell)
@@ -123,7 +125,7 @@ def open_desk(it: server.Server, run: Running) -> Desk:
     names = run.hands.names if run.hands else {}
     desk.connected = Connected(it.port, run.lab.sessions - 1, desk.client.own_port(), names, not recorded)
     desk.heard = Heard(run.folder / record.FOLDER, run.lab) if recorded else None
-    if run.lab.held() and it.hosted:
+    if run.lab.house_nodes() and it.hosted:
         desk.house = House(run.lab, it.port, run.stand_in, run.tell, run.played, lambda names: run.update_record(played=names))
     desk.names = run.names
     desk.clock = Clock(run.ends, datetime.now()) if run.ends else None
@@ -161,9 +163,9 @@ def renew(run: Running, it: server.Server, desk: Desk, name: str) -> None:
 
 
 def show(pages: projector.Pages, desk: Desk, tell: Teller, typed: bool) -> None:
-    """Starts to serve the pages for the projector and for the teacher, and shows on them all lines of the run from now
-    on. Prints their addresses. The address of the teacher's page is printed only if nobody else can read it. `typed`
-    says whether a program types the commands, so that this program reads what is printed."""
+    """Starts to serve `pages`, for the projector and for the teacher, with what `desk` reads. Shows on them all lines
+    that the run prints from now on. Prints their addresses. The address of the teacher's page is printed only if nobody
+    else can read it. `typed` says whether a program types the commands, so that this program reads what is printed."""
     watch = desk.start_watch()
 
     def tell_address_to_act() -> None:
@@ -240,8 +242,9 @@ def hold(run: Running, it: server.Server) -> int | None:
 
 
 def give_up(it: server.Server, run: Running, seconds: float) -> int | None:
-    """Ends the server `it` of a run, because its desk can't be used, and returns the exit status. If another process
-    started the server, only waits for its end, at most `seconds` seconds, and returns None if it continues."""
+    """Gives up the server `it` of a run, because its desk can't be used. First waits at most `seconds` seconds for the
+    server to end by itself. Then ends it if this process started it, and returns FAILED. If another process started the
+    server and it still runs, prints how to control it, and returns None."""
     ended = it.has_ended(seconds)
     if it.child is None and not ended:
         leave(it, run)

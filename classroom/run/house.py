@@ -9,7 +9,7 @@ from classroom.client import Client, Closed, Denied, Refused
 from classroom.core.journal import Event
 from classroom.core.lab import HOUSE, Lab
 from classroom.core.program import Fault
-from classroom.run.wording import named
+from classroom.run.wording import nodes_in_words
 
 LIMIT = 5.0  # seconds that the server's answer may take
 AGAIN = 2.0  # seconds after which the house connects again if no seat was free
@@ -19,7 +19,7 @@ HOW = "With --stand-in, `./class new` makes a lab in which the house is the seco
 
 def require_house(lab: Lab, file: object) -> None:
     """Raises `Fault`, which names the lab's file `file`, if the lab has no house."""
-    if not lab.held():
+    if not lab.house_nodes():
         raise Fault(f"{file}: the house can't play in this lab, since no node has `{HOUSE}` as its second owner. {HOW}")
 
 
@@ -35,7 +35,7 @@ class House:
         line."""
         self.port, self.seconds, self.tell = port, seconds, tell
         self.key = lab.students[HOUSE]
-        self.held = set(lab.held())
+        self.held = set(lab.house_nodes())
         self.students = {name: self.held.intersection(nodes) for name in lab.without_house().students if (nodes := lab.nodes_of(name))}
         self.played, self.keep = {name for name in played if name in self.students}, keep
         self.since: dict[int, float] = {}  # for each node, the time from which the class waits for it
@@ -48,7 +48,7 @@ class House:
         reports it. Raises `ValueError` if there is no such student."""
         self.played.add(self.require_student(name))
         self.keep(sorted(self.played))
-        return f"the house now plays for {name}, at {named(sorted(self.students[name]))}"
+        return f"the house now plays for {name}, at {nodes_in_words(sorted(self.students[name]))}"
 
     def stop(self, name: str) -> str:
         """Ends the house's playing for the student `name`. Returns the line that reports it. Raises `ValueError` if

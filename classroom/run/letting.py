@@ -70,7 +70,7 @@ def route_to(folder: str | None, lab: Path, run: Path) -> None:
 def page_lines(folder: str | None, lab: Path, looks: str | None) -> Iterator[str]:
     """Yields lines with the addresses of a run's pages through the door whose folder is `folder`. `lab` is the file of
     the run's lab. `looks` is the token of the page to look at, or None if there is no such page. Yields nothing if
-    `folder` is None, which means that there is no door."""
+    `folder` is None, which means that there is no door, or if it lacks the door's data."""
     place = place_of(folder, lab)
     if place is None:
         return

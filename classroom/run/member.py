@@ -1,6 +1,7 @@
 """One network of a class: the process that runs its desk, the output of that process, and its alarm. The *desk* is the
 teacher's connection to the network's server. A network is *down* if its server or its desk is gone, and the *alarm* is
-the text about that. The lines that its process prints while it starts have *facts*, such as a port."""
+the text about that. The lines that its process prints while it starts have *facts*, such as a port. The *record* of a
+run is the file `run.json` in its folder, and a *door* is a TLS port for students on other machines."""
 from __future__ import annotations
 
 import os

@@ -49,7 +49,7 @@ def now_row(it: NetworkState) -> list[str]:
     moves = f"{state['moves']} of at most {state['most']}" if state.get("most") is not None else str(state.get("moves", NONE))
     events = f"{state['events']} of {state['limit']}" if state else NONE
     return [str(it.number), it.name, it.room or NONE, status, str(state.get("configuration", NONE)), moves, events,
-            named(state.get("missing") or [])]
+            missing_in_words(state.get("missing") or [])]
 
 
 def plural_privileged(count: int) -> str:
@@ -57,7 +57,7 @@ def plural_privileged(count: int) -> str:
     return f"{count} privileged"
 
 
-def named(names: Sequence[str]) -> str:
+def missing_in_words(names: Sequence[str]) -> str:
     """Returns the number of missing students with the first MOST_NAMED of their names, as a text, or NONE if no student
     is missing."""
     if not names:

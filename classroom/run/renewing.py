@@ -1,9 +1,10 @@
-"""Gives a student another key while the class goes on: kills the host, and starts a new one that continues from
-its journal.
+"""Gives a student another key while the class goes on: kills the host, and starts a new one that continues from its
+journal.
 
-The *host* is the server of a class, and the *desk* is the teacher's connection to it. The *record* is what the host
-keeps about connections and requests. The keys of a running server can't change. A killed host doesn't report that the
-class is over, so programs connect again. All granted events are in the journal, because each line was synced.
+The *host* is the server of a class, and the *desk* is the teacher's connection to it. A *slip* is a file with a
+student's key, and the *house* is a program that plays for absent students. The *record* is what the host keeps about
+connections and requests. The keys of a running server can't change. A killed host doesn't report that the class is
+over, so programs connect again. All granted events are in the journal, because each line was synced.
 """
 from __future__ import annotations
 
@@ -24,9 +25,10 @@ PATIENCE = 60.0  # seconds that a killed process has to disappear
 
 
 def renew(folder: Path, lab: labs.Lab, it: server.Server, desk: Desk, name: str) -> None:
-    """Changes the key of the student `name` in the lab and the slips, and kills the server `it`. Starts a new one,
-    whose values replace those in `it`. The caller has to connect to the desk again. Raises `ValueError` if there is no
-    such student. Raises `Fault` if the key can't be changed, or if the server doesn't end or can't be started again."""
+    """Changes the key of the student `name` in the lab and the slips, and kills the server `it`. `folder` is that of
+    the run. Starts a new one, whose values replace those in `it`. The caller has to connect to the desk again. Raises
+    `ValueError` if there is no such student. Raises `Fault` if the key can't be changed, or if the server doesn't end
+    or can't be started again."""
     if name not in lab.without_house().students:
         raise ValueError(f"there is no student {name}. The students are: {', '.join(lab.without_house().students)}")
     kept = Record.read(folder)

@@ -1,7 +1,8 @@
 """`./class run`: starts a server with its own folder and a desk that closes steps, and writes marks at the end.
 
 The *desk* is the teacher's connection to the server, and the *house* plays for absent students. The *daemon* decides
-when a step is closed. A *record* is the file `run.json` in the folder of a run, by which other processes find it.
+when a step is closed. A *slip* is a file with what a student needs to connect. A *record* is the file `run.json` in the
+folder of a run, by which other processes find it.
 """
 from __future__ import annotations
 

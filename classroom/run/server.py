@@ -1,6 +1,6 @@
 """Starting and ending servers. No other module does that. A *host* is the server for a class, with a port for students
-and one for the teacher, the desk. `mml serve` is the simpler server, with one port and a fixed number of
-connections."""
+and one for the teacher, the desk. `mml serve` is the simpler server, with one port and a fixed number of connections. A
+server writes the events of a run to its *journal*, and a host also keeps a *record* of the requests and replies."""
 from __future__ import annotations
 
 import os

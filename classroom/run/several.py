@@ -3,7 +3,8 @@
 The *desk* is the terminal or program at which the teacher types commands. A *member* is a network with its process. A
 network is *down* if its server or its desk is gone, which is printed as an alarm. *News* are functions in a queue,
 which one thread calls one after another. The *hall* is the page for all networks, whose address has a random *token*. A
-*door* is a TLS port at which students on other machines connect.
+*door* is a TLS port at which students on other machines connect. In the functions, `words` are the arguments of the
+command line.
 """
 from __future__ import annotations
 
@@ -55,7 +56,7 @@ class Several:
         self.terminal: Terminal | None = None
         self.hall: hall.Hall | None = None
         self.written: Class | None = None  # the contents of `class.json`, once this process has written the file
-        self.from_elsewhere = ""  # the address of the page for all through the door
+        self.from_elsewhere = ""  # the address of the page for all networks through the door
         self.lines: list[str] = []  # the last lines, which the page shows
         self.is_told = False  # Whether the table was printed.
         self.is_left = False  # Whether another process takes the desks.
@@ -176,8 +177,8 @@ class Several:
         return [str(node) for node in sorted({node.id for member in self.members for node in member.lab.nodes})]
 
     def tell_table(self) -> None:
-        """Prints the table of networks with the addresses of the page for all, once all networks have started or are
-        down. Does nothing if the table was printed already."""
+        """Prints the table of networks with the addresses of the page for all networks, once all networks have started
+        or are down. Does nothing if the table was printed already."""
         if self.is_told or any(member.status == STARTS for member in self.members):
             return
         self.is_told = True
@@ -300,8 +301,8 @@ def help_text() -> str:
     return f"{addressed.HOW}\n{own}\n{command_help()}"
 
 
-def desk_words(words: argparse.Namespace) -> list[str]:
-    """Returns those options of a desk that are passed on to the run of each network."""
+def passed_on_words(words: argparse.Namespace) -> list[str]:
+    """Returns those options of a desk in the arguments that are passed on to the run of each network."""
     more = ["--until", words.until] if words.until else []
     more += ["--close", spelled(words.close)] if words.close else []
     more += ["--stand-in", f"{words.stand_in:g}"] if words.stand_in is not None else []
@@ -312,12 +313,12 @@ def desk_words(words: argparse.Namespace) -> list[str]:
 
 def words_of(words: argparse.Namespace, index: int) -> list[str]:
     """Returns the arguments for the process that runs the network with this index. `words` are the arguments of a new
-    class, or those of `attach` or `run --resume`. Only a new class has `ports` for the networks. A new class, and one
-    that continues with a new door, has `plays` for the pages on which students play. A network that continues keeps its
-    port and, if `play` is None, the port of this page. If `play` is set, but `plays` is missing, the first network's
-    page gets the port `play`, and the others the next ones. The class's own page has the port `page`, and the pages of
-    the networks have the next ones. `attach` has no option `--serve`."""
-    more, plays = desk_words(words), getattr(words, "plays", None)
+    class, or those of `attach` or `run --resume`. They have `ports`, the networks' ports, only for a new class. They
+    have `plays`, the ports of the pages on which students play, for a new class and for one that continues with a new
+    door. A network that continues keeps its port and, if `play` is None, the port of that page. If `play` is set, but
+    `plays` is missing, the first network's page gets the port `play`, and the others the next ones. The class's own
+    page has the port `page`, and the pages of the networks have the next ones. `attach` has no option `--serve`."""
+    more, plays = passed_on_words(words), getattr(words, "plays", None)
     more += ["--port", str(words.ports[index])] if hasattr(words, "ports") else []
     more += ["--serve"] if getattr(words, "serve", False) else []
     more += ["--page", str(words.page + 1 + index)] if words.page is not None else []
@@ -395,8 +396,8 @@ def open_page(several: Several, port: int, token: str | None) -> hall.Hall:
     """Opens the page of all networks of a class, at a port or the next free one. `token` is the token of the page's
     earlier address, or None for a new address. Raises `Fault` if no port is free."""
     members = several.members
-    return hall.opened(port, title(several.folder), lambda line: several.news.put(lambda: several.act(line)), several.state(False), token,
-                       lambda: [hall.view(member.folder, member.lab) for member in members])
+    return hall.open_hall(port, title(several.folder), lambda line: several.news.put(lambda: several.act(line)), several.state(False), token,
+                          lambda: [hall.view(member.folder, member.lab) for member in members])
 
 
 def write_class(several: Several, end: datetime | None, door: str | None) -> None:

@@ -31,7 +31,7 @@ class Striker:
         If no step is closed and no event has come for SECONDS, prints for whom the class waits, unless steps are closed
         by hand. If the search of the adversary fails, changes the daemon to when-idle. If the server refuses a request
         because nothing more is granted, ends the run. If the server is out of memory, closes no step, so that the next
-        call tries again."""
+        call tries again. Raises `Denied` if the server denies a request for an unexpected reason."""
         now = time.monotonic()
         if desk.closing != self.how:
             self.how, self.closed = desk.closing, now

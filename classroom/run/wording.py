@@ -38,10 +38,10 @@ def edits(events: Sequence[Event]) -> str:
     """Returns one text for several events of one kind, which are faults, links or cuts. The text has their number and
     the nodes."""
     nodes = sorted({node for event in events for node in event.nodes})
-    return f"{plural(len(events), KINDS[events[0].kind])} at {named(nodes)}"
+    return f"{plural(len(events), KINDS[events[0].kind])} at {nodes_in_words(nodes)}"
 
 
-def named(nodes: Sequence[int]) -> str:
+def nodes_in_words(nodes: Sequence[int]) -> str:
     """Returns a text that lists nodes. For many nodes, the text has the first ones and the number of the others."""
     shown = ", ".join(map(str, nodes[:MOST_NODES]))
     more = len(nodes) - MOST_NODES

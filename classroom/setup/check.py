@@ -54,7 +54,8 @@ def refused(path: Path, error: str) -> Iterator[str]:
 
 
 def suggestion(key: str, meant: str) -> str:
-    """Returns what to write for an unknown key. `meant` is the third value of `unknown_keys`."""
+    """Returns what to write for an unknown key. `meant` is the most similar known key, or ABOVE for a key of the
+    document in another table, as `unknown_keys` yields it."""
     if meant == ABOVE:
         return f"Write {key} above the first line in brackets, such as [teacher]"
     return f"Did you mean {meant}?"
@@ -206,7 +207,8 @@ def example_keys() -> set[str]:
 
 
 def key_warnings(lab: labs.Lab) -> Iterator[str]:
-    """Yields a warning for each person of the lab whose key is public or can be guessed."""
+    """Yields a warning for each person of the lab whose key is public or can be guessed. Raises `Fault` if an example
+    lab can't be read."""
     examples = example_keys()
     for name, key in [lab.teacher, *lab.students.items()]:
         if key in examples:
@@ -279,7 +281,8 @@ def start_warnings(path: Path, lab: labs.Lab) -> Iterator[str]:
 def warnings(path: Path) -> Iterator[str]:
     """Yields all warnings about the lab in a file, which the program accepts. If `labs.read` fails all the same, yields
     only those about unknown TOML keys and tables, and a line with this error. Then the people's secret keys, the
-    network with its owners, the limits and the beginning aren't checked."""
+    network with its owners, the limits and the beginning aren't checked. Raises `Fault` if an example lab can't be
+    read, or if the program doesn't print the limits or bounds."""
     text = path.read_text(encoding="utf-8-sig")
     for line, key, meant in unknown_keys(text):
         more = f" {suggestion(key, meant)}" if meant else ""
@@ -305,7 +308,7 @@ def size_line(path: Path, line: str) -> str:
 def check(words: argparse.Namespace) -> int:
     """Prints the program's verdict on a lab, and warnings. If the program refuses the lab, prints the line of the error
     instead, and hints. Returns 0, 5 if there are warnings, or the program's status if it refuses the lab or can't read
-    it."""
+    it. Raises `Fault` if the program isn't built."""
     path = Path(words.lab)
     answer: Answer = call("check", path)
     if answer.status != 0:

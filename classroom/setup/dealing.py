@@ -1,5 +1,6 @@
-"""Dealing students to networks, and nodes to students. Students may have a *room*, in a column of the class list.
-*House* is a student without a person, who may own each node together with a student."""
+"""Dealing students to networks, and nodes to students. Students may have a *room*, in a column of the class list. The
+*house* is a student without a person, who may own each node together with a student. A *seat* is one of the connections
+that a server can have at the same time."""
 from __future__ import annotations
 
 import itertools

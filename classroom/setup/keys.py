@@ -22,8 +22,8 @@ def for_people() -> str:
 
 
 def for_programs() -> str:
-    """Returns a new random key of 32 hexadecimal digits, for the teacher or the house. Nobody has to type it, since a
-    file contains it."""
+    """Returns a new random key of 32 hexadecimal digits, for the teacher or for the house, the program that plays for
+    absent students. Nobody has to type it, since a file contains it."""
     return secrets.token_hex(KEY_BYTES)
 
 

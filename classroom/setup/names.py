@@ -1,4 +1,5 @@
-"""Turns the names in a class list into names for a lab, which consist of the letters a to z, digits and hyphens."""
+"""Turns the names in a class list into names for a lab, which consist of the letters a to z, digits and hyphens. The
+program prints how long a name may be, so functions that cut names raise `Fault` if it isn't built."""
 from __future__ import annotations
 
 import re

@@ -1,7 +1,8 @@
 """`./class new`: makes labs from a class list, with slips for each. A *lab* is the file that defines a network with its
 students, and a *slip* has the data that a student needs to connect. The *way* into a network is what all its slips have
-in common. The *house* is a student without a person, who may play for absent students. In all functions here, `words`
-are the arguments of the command line."""
+in common. The *house* is a student without a person, who may play for absent students. A *seat* is one of the
+connections that a server can have at the same time, and a *door* is a TLS port for students on other machines. In all
+functions here, `words` are the arguments of the command line."""
 from __future__ import annotations
 
 import argparse

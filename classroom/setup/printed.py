@@ -1,5 +1,6 @@
 """The page with slips for printing: four on a sheet, with lines to cut along. A *slip* has the data that a student
-needs to connect, and the *way* into a network is what all its slips have in common."""
+needs to connect, and the *way* into a network is what all its slips have in common. A *door* is a TLS port for students
+on other machines. Without one, they use ssh."""
 from __future__ import annotations
 
 import shutil
@@ -93,7 +94,7 @@ def slip(made: Lab, shown: Lab, name: str, way: Way) -> str:
     person, link = made.people.get(name, Person(name)), address(way, name, made.students[name])
     room = f" · {escape(way.room)}" if way.room else ""
     listed = "".join(f"<dt>{head}</dt><dd>{value}</dd>" for head, value in rows(shown, name))
-    house = "<p>If a node of yours waits too long for you, a program, the house, may play it.</p>" if made.held() else ""
+    house = "<p>If a node of yours waits too long for you, a program, the house, may play it.</p>" if made.house_nodes() else ""
     anchor = f'<a href="{escape(link)}">{escape(link.partition("#")[0])}</a>'
     if way.door:
         how = (f"<p>To play by hand: {anchor}. Your browser will warn you about the certificate; compare its fingerprint with the one below.</p>"

@@ -24,9 +24,10 @@ class Estimates(unittest.TestCase):
     """The order in which crates are proved, and the estimate of how long the remaining proofs take."""
 
     def test_the_proof_with_the_longest_chain_above_it_comes_first(self) -> None:
-        """A crate is proved after those that it uses. Among the crates that can be proved next, the one with the
-        longest chain of proofs that wait for it comes first. `is_first` also holds if the chain is nearly as long as
-        the longest one."""
+        """A crate is proved after those that it uses. `chains` returns for each crate the seconds of the longest chain
+        of proofs that begins with it, such as 10 + 50 + 5 for a, c and e. Among the crates that can be proved next, the
+        one with the longest chain comes first. `is_first` also holds if the chain is nearly as long as the longest
+        one."""
         self.assertEqual(chains(USES, SECONDS), {"a": 65.0, "b": 125.0, "c": 55.0, "d": 25.0, "e": 5.0})
         progress = Progress(USES, SECONDS, 1)
         for crate in "bacde":
@@ -40,7 +41,8 @@ class Estimates(unittest.TestCase):
         self.assertEqual((nearly.longest["a"], nearly.is_first("b"), nearly.is_first("a")), (120.0, True, True))
 
     def test_the_time_that_is_left_is_that_of_proofs_side_by_side(self) -> None:
-        """Independent proofs run side by side, as many as there are processors. The progress line has this time."""
+        """Independent proofs run side by side, as many as there are processors. With one processor, they take the sum
+        of all times, and with more, at least the time of the longest chain. The progress line has this time."""
         self.assertEqual([Progress(USES, SECONDS, number).left(0.0) for number in (1, 2, 4)], [185.0, 125.0, 125.0])
         progress = Progress(USES, SECONDS, 2)
         progress.begun = {"a": 0.0, "b": 0.0}
@@ -269,6 +271,7 @@ class Builds(InClone):
         self.assertEqual([*self.temporary.iterdir()], [])
 
     def test_a_proof_that_fails_is_reported_and_the_old_program_stays(self) -> None:
+        """The stand-in fails at the crate `left`. The log of the build is removed by the next build that succeeds."""
         self.call("./mml", "build")
         (self.clone / "crates/low/src/lib.rt").write_text("// another\n", encoding="utf-8")
         self.set("fails", "left")

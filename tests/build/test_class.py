@@ -114,8 +114,9 @@ class SetsUp(InClone):
         self.assertIn("no lab can be made from this list and these options (lab fault: 3)", done.stderr)
 
     def test_on_a_full_disk_new_leaves_no_file(self) -> None:
-        """If a file can't be written completely, neither it nor the others are left. A limit on file sizes stands
-        for a full disk."""
+        """If a file can't be written completely, neither it nor the others are left. A limit on file sizes stands for a
+        full disk. With 40 students the lab is larger than the limit of 1 KiB. Of all files, only the page with the
+        slips is larger than the limit of 8 KiB."""
         (self.clone / "names.txt").write_text("".join(f"student{number}\n" for number in range(40)), encoding="utf-8")
         self.assertEqual(self.call("./mml", "build").returncode, 0)
         for most, full in ((1, "maths.toml"), (8, "maths-slips.html")):

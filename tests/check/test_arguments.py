@@ -43,6 +43,7 @@ class Halting(unittest.TestCase):
     """The requests that the tests in `tests/resume` repeat until a full disk halts the journal."""
 
     def test_a_journal_that_is_never_halted_is_a_failure(self) -> None:
+        """Each reply grants the request, so each turn has three events: those of the move, the close and the fault."""
         granted = mock.Mock()
         granted.ask.return_value = b'{"place":1}\n'
         said = io.StringIO()
@@ -51,6 +52,8 @@ class Halting(unittest.TestCase):
         self.assertTrue(said.getvalue().startswith(f"FAILED: resume: after {TURNS} turns and {3 * TURNS} events "), said.getvalue())
 
     def test_the_events_before_the_journal_is_halted_are_counted(self) -> None:
+        """In each turn, ana asks for a move, and the teacher for a close and a fault. The fault of the third turn is
+        refused, so there are 3 + 3 + 2 events."""
         ana, tess = mock.Mock(), mock.Mock()
         ana.ask.return_value = b'{"place":1}\n'
         tess.ask.side_effect = [b'{"place":1}\n'] * 5 + [refusal_of("journal")]

@@ -51,6 +51,7 @@ class Words(InTree):
             self.assertIn(why, done.stderr)
 
     def test_check_runs_the_proofs_first_and_then_all_parts(self) -> None:
+        """The proofs count as 5 tests, the wrong bodies as 7, and each of the two quick parts as one."""
         for program in ("check", ".ci/run"):
             done = self.check(program=program)
             lines = done.stdout.splitlines()
@@ -229,6 +230,8 @@ class Ends(InTree):
         self.check_ended_by(signal.SIGINT, True)
 
     def test_a_check_whose_output_nobody_reads_ends_with_status_1(self) -> None:
+        """The first part waits until nobody can read the check's output any longer. The check then can't print a
+        result."""
         self.stand_in(part("waits", WAITS), part("well", WELL))
         going = self.start("quick")
         assert going.stdout is not None
@@ -238,6 +241,7 @@ class Ends(InTree):
         self.check_nothing_left()
 
     def test_a_second_check_in_the_same_tree_is_refused_with_status_3(self) -> None:
+        """The first check waits meanwhile, and passes afterwards. Then a check can run again."""
         self.stand_in(part("waits", WAITS))
         going = self.start("quick")
         for words in ("quick", "proofs", ""):

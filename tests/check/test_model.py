@@ -11,7 +11,7 @@ import tempfile
 import unittest
 from pathlib import Path
 
-from model import Ended, ended
+from model import Ended, run_command
 from model.policy import DENIALS
 from tools.check.parts import TOP
 
@@ -77,6 +77,8 @@ class Called(unittest.TestCase):
         self.assertRegex(done.stdout, r"^[0-9]+ scripts were played; 0 outputs differ from the stored files\n$")
 
     def test_an_output_that_differs_is_written_beside_the_old_one(self) -> None:
+        """One word of a stored output is changed. The stored file stays as it is, and the difference is printed as a
+        line with `-` and one with `+`. When the stored output is right again, the new file is removed."""
         stored, new = self.room / "examples/path-run.out", self.room / "examples/path-run.out.new"
         right = stored.read_text(encoding="ascii")
         wrong = right.replace('"ok":"close"', '"ok":"closed"', 1)
@@ -108,15 +110,16 @@ class Called(unittest.TestCase):
         for words in calls:
             status, out, error = self.call(*words)
             self.assertEqual((status, out, error.splitlines()[0]), (1, "", "command line: not understood"), words)
-        self.assertEqual(ended(["audit", str(lab), str(journal)]), Ended(4, b"", b"read fault: journal\n"))
-        self.assertEqual(ended(["audit", str(journal), str(lab)]), Ended(4, b"", b"read fault: lab\n"))
+        self.assertEqual(run_command(["audit", str(lab), str(journal)]), Ended(4, b"", b"read fault: journal\n"))
+        self.assertEqual(run_command(["audit", str(journal), str(lab)]), Ended(4, b"", b"read fault: lab\n"))
 
     def test_an_existing_journal_is_not_overwritten(self) -> None:
+        """The first run of the script makes the journal. The second run fails with an error, since the file exists."""
         lab, script, journal = self.room / "examples/path.toml", self.room / "examples/path-run.script", self.room / "journal"
-        self.assertEqual(ended(["script", str(lab), str(script), str(journal)]).status, 0)
+        self.assertEqual(run_command(["script", str(lab), str(script), str(journal)]).status, 0)
         kept = journal.read_bytes()
         self.assertTrue(kept)
-        self.assertEqual(ended(["script", str(lab), str(script), str(journal)]), Ended(4, b"", b"journal fault\n"))
+        self.assertEqual(run_command(["script", str(lab), str(script), str(journal)]), Ended(4, b"", b"journal fault\n"))
         self.assertEqual(journal.read_bytes(), kept)
 
 

@@ -181,7 +181,7 @@ class Played(unittest.TestCase):
         return subprocess.run([sys.executable, TOP / "class", *words], capture_output=True, text=True, check=False)
 
     def page(self, lab: Path, journal: Path) -> Path:
-        """Makes the page of a run by `./class play`, and returns its file."""
+        """Makes the page of the run with this lab and this journal by `./class play`, and returns its file."""
         output = self.room / f"{journal.stem}.html"
         done = self.call("play", lab, journal, "-o", output)
         self.assertEqual((done.returncode, done.stderr), (0, ""))

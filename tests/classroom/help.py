@@ -99,7 +99,7 @@ class InRoom(unittest.TestCase):
         self.room = Path(room.name)
 
     def file(self, name: str, text: str) -> Path:
-        """Writes a new file, and returns its path."""
+        """Writes a new file with this name and text into the room, and returns its path."""
         path = self.room / name
         path.write_text(text, encoding="utf-8")
         return path
@@ -198,8 +198,8 @@ class Rows:
     with those of the headers."""
 
     def __init__(self, address: str, name: str, key: str) -> None:
-        """Sends the hello of a student to the page's server at an address. Raises an error if the answer's status isn't
-        200."""
+        """Sends the hello of a student, with this name and key, to the page's server at an address. Raises an error if
+        the answer's status isn't 200."""
         parts = urlsplit(address)
         self.connection = http.client.HTTPConnection("127.0.0.1", parts.port or 0, timeout=LIMIT)
         self.connection.request("POST", "/enter", json.dumps({"name": name, "key": key}), {"Host": parts.netloc})
@@ -234,8 +234,8 @@ class InTerminal:
     """A run in its own terminal, a pseudo-terminal whose other end (`ours`) the test has."""
 
     def __init__(self, test: InRoom, *words: str | Path) -> None:
-        """Starts `./class` with these arguments, or without any a run of the cycle whose steps are closed by hand.
-        Reads the terminal up to the line with the commands."""
+        """Starts `./class` with these arguments. Without any, starts a run of the cycle whose steps are closed by hand,
+        and whose folder is in the room of `test`. Reads the terminal up to the line with the commands."""
         self.ours, theirs = pty.openpty()
         given = words or ("run", CYCLE, "--into", test.room / "runs", "--close", "by-hand")
         self.process = subprocess.Popen(

@@ -36,20 +36,20 @@ MARKUP = re.compile(r"</?[a-z][^<>]*>?|[\w:-]+=\\?\"[^\"]*\\?\"?")
 
 
 def template(node: ast.JoinedStr | ast.Constant) -> str:
-    """Returns the text of a literal or an f-string in a source, with `{}` for each value in it."""
+    """Returns the text of a literal or an f-string in a syntax tree, with `{}` for each value in it."""
     if isinstance(node, ast.Constant):
         return str(node.value)
     return "".join(str(part.value) if isinstance(part, ast.Constant) else "{}" for part in node.values)
 
 
 def is_call_of(node: ast.AST, names: tuple[str, ...]) -> bool:
-    """Returns whether a node of a source calls a function or method of one of these names."""
+    """Returns whether a node of a syntax tree is a call of a function or method with one of these names."""
     return isinstance(node, ast.Call) and ast.unparse(node.func).rpartition(".")[2] in names
 
 
 def texts(node: ast.AST) -> Iterator[str]:
-    """Yields the texts in a node of a source. Leaves out docstrings, and the texts in calls of NOT_LINES, which are
-    regular expressions, the help of options, and forms of dates."""
+    """Yields the texts in a node of a syntax tree. Leaves out docstrings, and the texts in calls of NOT_LINES, which
+    are regular expressions, the help of options, and forms of dates."""
     for child in ast.iter_child_nodes(node):
         is_text = isinstance(child, ast.JoinedStr) or isinstance(child, ast.Constant) and isinstance(child.value, str)
         if isinstance(child, (ast.JoinedStr, ast.Constant)) and is_text:

@@ -41,8 +41,8 @@ def lab_text(nodes: int, links: list[tuple[int, int]], events: int) -> str:
 
 
 def many_owners(room: Path, nodes: int) -> Path:
-    """Writes a lab with a cycle of `nodes` nodes, and returns its path. The owners are zoe and twelve students whose
-    names begin with the same letter. Each third node has two owners."""
+    """Writes a lab with a cycle of `nodes` nodes into the folder `room`, and returns its path. The owners are zoe and
+    twelve students whose names begin with the same letter. Each third node has two owners."""
     names = [f"student-{number}" for number in range(1, 13)] + ["zoe"]
     lab = room / f"owners-{nodes}.toml"
     rows = ["events = 9", "sessions = 2", "links = [" + ", ".join(f"[{a}, {a % nodes + 1}]" for a in range(1, nodes + 1)) + "]"]
@@ -55,8 +55,8 @@ def many_owners(room: Path, nodes: int) -> Path:
 
 
 def edited_run(room: Path) -> tuple[Path, Path]:
-    """Writes a run with every kind of event: moves, a release, closes, faults, a link and a cut. Returns the lab and
-    the journal."""
+    """Writes a run with every kind of event into the folder `room`: moves, a release, closes, faults, a link and a cut.
+    Returns the lab and the journal."""
     lab, script = room / "edited.toml", room / "edited.script"
     lab.write_text(lab_text(5, [(1, 2), (2, 3), (3, 4), (4, 5)], 100))
     ana, tess = '1 {"do":"hello","name":"ana","key":"a-key"}', '2 {"do":"hello","name":"tess","key":"chalk"}'
@@ -72,8 +72,8 @@ def edited_run(room: Path) -> tuple[Path, Path]:
 
 
 def largest_run(room: Path) -> tuple[Path, Path]:
-    """Writes a run of the largest lab, a complete graph of 256 nodes. The run's 1,000 events are moves, releases of
-    most of these moves, nineteen faults and a close. Returns the lab and the journal."""
+    """Writes a run of the largest lab, a complete graph of 256 nodes, into the folder `room`. The run's 1,000 events
+    are moves, releases of most of these moves, nineteen faults and a close. Returns the lab and the journal."""
     lab, script = room / "largest.toml", room / "largest.script"
     lab.write_text(lab_text(256, [(a, b) for a in range(1, 257) for b in range(a + 1, 257)], 1000))
     lines = ['1 {"do":"hello","name":"ana","key":"a-key"}', '2 {"do":"hello","name":"tess","key":"chalk"}']
@@ -88,8 +88,8 @@ def largest_run(room: Path) -> tuple[Path, Path]:
 
 
 def long_run(room: Path, events: int) -> tuple[Path, Path]:
-    """Writes a run of `events` events on a path of 15 nodes. The run repeats a fault, the move that the fault
-    enables, and a close. Returns the lab and the journal."""
+    """Writes a run of `events` events on a path of 15 nodes into the folder `room`. The run repeats a fault, the move
+    that the fault enables, and a close. Returns the lab and the journal."""
     lab, journal = room / "long.toml", room / "long.journal"
     lab.write_text(lab_text(15, [(a, a + 1) for a in range(1, 15)], events))
     rows = []

@@ -22,8 +22,8 @@ from tests.classroom.help import CYCLE, EXAMPLES, KEYS, Cycle, Going, call_class
 
 
 def rows(daemon: str, family: str, nodes: int, seeds: range) -> list[Row]:
-    """Returns the rows of an experiment's table for runs under a daemon, one for each seed. The runs begin with random
-    registers."""
+    """Returns the rows of an experiment's table for runs under a daemon, one for each seed. Their networks are of this
+    family and have `nodes` nodes. The runs begin with random registers."""
     return [row for row, _ in runs(Setting(family, nodes, Daemon.of(daemon), "random"), list(seeds))]
 
 
@@ -56,7 +56,8 @@ class Search(unittest.TestCase):
         self.assertTrue(bench.step(report, [privileged[0]], min))
 
     def test_it_chooses_one_or_all_of_those_that_may_move_and_the_same_again(self) -> None:
-        """A node that isn't privileged is left out, also if it is among those to choose from."""
+        """Another adversary with the same seed makes the same choice. A node that isn't privileged is left out, also if
+        it is among those to choose from."""
         made = drawn(Setting("complete", 5, Daemon("central"), "random"), 2)
         it, privileged = self.adversary_for(made)
         found = it.choose(made, privileged)
@@ -77,7 +78,7 @@ class Search(unittest.TestCase):
         self.assertEqual(len(it.choose(made, [2, 1])), 1)
 
     def test_a_new_bench_is_started_when_events_are_used_up_or_links_differ(self) -> None:
-        """The process of the bench that it replaces is ended."""
+        """A new bench replaces the old one, whose process is ended."""
         made = drawn(Setting("path", 4, Daemon("central"), "random"), 1)
         it, privileged = self.adversary_for(made)
         first = it.bench
@@ -93,7 +94,7 @@ class Search(unittest.TestCase):
 
 
 class Long(unittest.TestCase):
-    """Complete runs."""
+    """Complete runs under the daemons `schedule` and `adversary`."""
 
     def test_the_schedule_reaches_the_proved_numbers_of_moves_and_rounds(self) -> None:
         """From the worst start, a run in a network of the family `crowd` has as many moves as the proved bound allows,
@@ -107,7 +108,8 @@ class Long(unittest.TestCase):
 
     def test_the_adversary_makes_at_least_four_fifths_of_the_proved_number_of_moves(self) -> None:
         """This holds for runs from the worst start. From random starts it makes in total at least as many moves as the
-        schedule."""
+        schedule. Neither is proved, since the adversary only searches. But the seeds are fixed, so these runs are the
+        same each time."""
         for nodes in (4, 6, 8, 10):
             row, = (row for row, _ in runs(Setting("crowd", nodes, Daemon.of("adversary"), "worst"), [1]))
             self.assertGreaterEqual(row.moves, 0.8 * bounds.of(nodes, row.links).moves, nodes)
@@ -116,7 +118,7 @@ class Long(unittest.TestCase):
 
     def test_runs_have_over_five_percent_more_moves_than_under_a_central_daemon(self) -> None:
         """These are the runs under the adversary. Both daemons get the same seeds, and so the same networks and
-        registers."""
+        registers. The five percent are measured, not proved. The runs are the same each time."""
         for family, nodes in (("complete", 5), ("cycle", 6)):
             central, worse = (rows(daemon, family, nodes, range(1, 9)) for daemon in ("central", "adversary"))
             self.assertTrue(all(row.stable and not row.exceeds_bounds() for row in worse))
@@ -145,7 +147,9 @@ class Long(unittest.TestCase):
             self.assertEqual(movers(Daemon(kind), [1, 2, 3], chance, lambda nodes: [nodes[-1]]), [3])
         rules = {1: "marriage", 2: "update", 3: "seduction", 4: "update", 5: "abandonment", 6: "marriage"}
         order, left = [], dict(rules)
-        while left:  # Each node moves once, in the order of the schedule.
+        # Each node moves once. Abandonments come first, then updates, seductions and marriages. Of the nodes with the same
+        # rule, the lowest moves first for the first two rules, and the highest for the others.
+        while left:
             order.append(scheduled(left, [*left]))
             del left[order[-1]]
         self.assertEqual(order, [5, 2, 4, 3, 6, 1])
@@ -157,7 +161,8 @@ class Everywhere(Cycle):
     """The adversary in run, practise, grade and experiment."""
 
     def test_a_run_becomes_stable_under_the_adversary_also_after_a_break(self) -> None:
-        """The desk prints a line whenever the network is stable. The marks have the same lines."""
+        """The desk prints a line whenever the network is stable. The marks have the same lines. With the added link,
+        the cycle has 7 nodes and 8 links, so the bound on moves is 3 * 7 + 2 * 8 = 37."""
         going = Going(self, CYCLE, "--daemon", "by-hand")
         for name in KEYS:
             self.bot(going, name)
@@ -175,6 +180,7 @@ class Everywhere(Cycle):
         self.assertEqual(call_class("mark", going.folder).stdout, text.replace(f"{CYCLE}", str(going.folder)))
 
     def test_practise_experiment_and_grade_accept_the_adversary(self) -> None:
+        """The experiment makes two runs under each of its two daemons. The grade has a single case."""
         done = call_class("practise", EXAMPLES / "bot.py", "--nodes", "5", "--daemon", "adversary", "--into", self.room / "runs")
         self.assertEqual(done.returncode, 0, done.stdout + done.stderr)
         self.assertRegex(done.stdout, "(?m)^the network is stable; pairs: ")

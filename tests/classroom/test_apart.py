@@ -76,6 +76,8 @@ class Apart(Grades):
         self.assertNotIn("class: ", output)  # No line says that the bots aren't isolated.
 
     def test_a_bot_finds_no_program_of_another_to_copy(self) -> None:
+        """The bot `copies` passes none of its cases, since it ends if it finds no other bot. The correct bot passes its
+        three."""
         output = self.grades("right", "copies")
         self.assertEqual([self.passed(output, fault) for fault in ("right", "copies")], [3, 0], output)
 
@@ -110,6 +112,7 @@ class Apart(Grades):
         return why.partition("; the last line of its output is: ")[2]
 
     def test_of_bots_in_one_folder_none_sees_another(self) -> None:
+        """The first bot can read its own file, and the file of the other bot isn't there for it."""
         text = FAULTY.read_text(encoding="utf-8").replace(IMPORTED_FROM, repr(str(TOP)))
         for name in ("one.py", "two.py"):
             self.file(name, text)
@@ -146,6 +149,7 @@ class Together(Grades):
                                           "and can read your files (see docs/COURSE.md)\n"), output)
 
     def test_limits_on_files_and_memory_also_hold_if_bots_are_not_kept_apart(self) -> None:
+        """Each of the two bots is ended in its three cases, for its own reason."""
         output = self.grades("fills", "hides-memory", more=("--not-apart",))
         self.assertEqual(output.count("\n        the bot was ended: it had more than 64 megabytes in files\n"), 3, output)
         self.assertEqual(output.count("\n        the bot was ended: it used more than 200 megabytes of memory\n"), 3, output)

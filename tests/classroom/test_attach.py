@@ -84,6 +84,8 @@ class Attach(Cycle):
                                       f"To control it, type: {CLASS} attach {going.folder} . To start another run beside it, add --beside\n")
 
     def test_a_run_continues_without_its_terminal_until_attach_takes_its_desk(self) -> None:
+        """The terminal is closed, and then the process of its desk waits until `attach` takes the desk. The two events
+        of the run are the fault and the link."""
         terminal = InTerminal(self)
         terminal.type(b"fault 1 2 true\n", b" moves: 0 of at most 35;")
         os.close(terminal.ours)
@@ -129,6 +131,7 @@ class Attach(Cycle):
             time.sleep(0.05)
 
     def test_attach_refuses_a_run_that_has_a_desk_or_has_ended_and_a_missing_folder(self) -> None:
+        """The error line says what to do instead. An ended run can only be continued by `run --resume`."""
         going = Going(self, CYCLE, "--close", "by-hand")
         done = call_class("attach", going.folder)
         self.assertEqual((done.returncode, done.stderr), (1, f"class: {going.folder}: another process (number {going.process.pid}) controls this run. "

@@ -71,6 +71,7 @@ class Broken(Cycle):
                 self.assertTrue(any(line.startswith("the server") for line in going.lines))
 
     def test_a_run_whose_server_is_killed_while_bots_play_keeps_at_least_the_printed_events(self) -> None:
+        """Each printed configuration has at least one event."""
         going = Going(self, CYCLE, "--close", "every:0.05")
         for name in KEYS:
             self.bot(going, name)
@@ -194,6 +195,8 @@ class Broken(Cycle):
                                 for line in going.lines), going.lines)
 
     def test_a_run_ends_when_all_events_that_its_lab_allows_are_used(self) -> None:
+        """The lab allows a single event. This is the granted move, so no step can be closed any more. The run ends with
+        status 5."""
         lab = self.lab("cycle.toml", 8)
         lab.write_text(re.sub(r"(?m)^events = \d+", "events = 1", lab.read_text(encoding="utf-8")), encoding="utf-8")
         going = Going(self, lab, "--close", "every:0.1")
@@ -220,6 +223,8 @@ class Broken(Cycle):
         self.assertRegex(lines[-1], "No space left on device. The journal is .*/journal$")
 
     def test_a_run_whose_printed_lines_nobody_reads_continues_to_its_end(self) -> None:
+        """The journal gets both events, the fault and the new link. `end` is typed twice, since the network isn't
+        stable."""
         going = Going(self, CYCLE, "--close", "by-hand")
         assert going.process.stdout is not None
         going.process.stdout.close()
@@ -230,6 +235,7 @@ class Broken(Cycle):
         self.assertIn("added the link between 1 and 3", (going.folder / "run.txt").read_text(encoding="utf-8"))
 
     def test_a_client_that_is_answered_by_busy_raises_refused(self) -> None:
+        """The test is the server. It sends `busy` in place of the reply to the hello."""
         with socket.create_server(("127.0.0.1", 0)) as full:
             def turn_away() -> None:
                 """Answers the next connection with `busy`."""
@@ -270,6 +276,7 @@ class Broken(Cycle):
                 self.assertEqual((said.returncode, said.stderr), (0, "bot.py: the run is over\n"))
 
     def test_example_programs_print_their_arguments_when_asked_for_help(self) -> None:
+        """They do so as for a missing argument: on the standard error, and with status 1."""
         for name in ("bot.py", "teacher.py"):
             said = subprocess.run([sys.executable, EXAMPLES / name, "--help"], capture_output=True, text=True, timeout=LIMIT, check=False)
             self.assertEqual((said.returncode, said.stdout), (1, ""))
@@ -311,7 +318,8 @@ class Broken(Cycle):
 
     def test_a_newcomer_whose_own_end_is_read_later_is_named(self) -> None:
         """The system may list the server's end of a connection before the client's. The list is read a few times until
-        it has both. If it never has, the client counts as a program of another user."""
+        it has both. If it never has, the client counts as a program of another user. Sockets are given as in the test
+        above. The client's end is a socket of this process."""
         listens, served = (4711, 0, "0A", "1"), (4711, 5, "01", "2")
         with socket.create_server(("127.0.0.1", 0)) as it:
             own = (5, 4711, "01", re.sub(r"\D", "", os.readlink(f"/proc/self/fd/{it.fileno()}")))

@@ -236,6 +236,9 @@ class Playing(InRoom):
                     self.assertNotIn(key.encode(), file.read_bytes(), file)
 
     def test_in_a_quiz_the_page_does_not_show_which_rules_can_be_applied(self) -> None:
+        """In a quiz, the page's HTML has none of the texts by which it otherwise shows the rule of a privileged node:
+        the description of the node, an attribute with a rule, and the letter U for update. A move can be asked for all
+        the same. After the quiz the rule is shown again."""
         self.begin()
         self.open()
         self.come()
@@ -311,7 +314,7 @@ class Playing(InRoom):
             for theme in ("light", "dark"):
                 show_as(self.driver, theme)
                 with self.subTest(size=size, theme=theme):
-                    check_readable(self, self.driver, size, 40)
+                    check_readable(self, self.driver, size, 40)  # The page has more than 40 texts.
 
 
 class Wire(InRoom):
@@ -335,6 +338,9 @@ class Wire(InRoom):
         return rows
 
     def test_the_page_receives_no_hidden_register_no_key_and_no_name_of_others(self) -> None:
+        """Faults at node 6 change nothing in the rows that the page receives, except for the number of the
+        configuration. Moves of node 6 and of node 99, which doesn't exist, are denied in the same way. The token by
+        which the page names its seat is only in the rows."""
         going = Going(self, CYCLE, "--close", "by-hand", "--play", str(a_port()))
         address = going.until("^page for playing by hand http").removeprefix("page for playing by hand ")
         _, page = self.ask(address, "GET", "/")
@@ -400,6 +406,7 @@ class Wire(InRoom):
                 for verb, path in (("GET", "/"), ("POST", "/enter"), ("POST", "/move")):
                     hello = {"name": "gus", "key": "a"} if verb == "POST" else None
                     self.assertEqual(self.ask(hands.address, verb, path, hello, Host=elsewhere)[0].status, 421)
+            # Other paths, bodies that are too large, and tokens of no page get 404. Bodies of a wrong form get 400.
             rows: tuple[tuple[str, str, object, int], ...] = (
                 ("GET", "/enter", None, 404), ("GET", "/?name=gus&key=heron-31", None, 404), ("POST", "/", {}, 404),
                 ("POST", "/enter", b"", 400), ("POST", "/enter", b"[" * 900, 400), ("POST", "/enter", b"7", 400),
@@ -412,6 +419,7 @@ class Wire(InRoom):
             self.assertEqual(hands.seats, {})
 
     def test_a_move_of_a_wrong_form_is_answered_by_the_reason_and_not_sent(self) -> None:
+        """A stand-in for the class's server gets only the hello of the page and its looks, and no move."""
         with served(self) as hands, Host(["late"]) as host:
             hands.show(host.port, print)
             rows = self.enter(hands.address, "gus", "a")

@@ -68,6 +68,7 @@ class Check(InRoom):
                   change=("sessions = 4", "sessions = 99"))
 
     def test_errors_of_the_program_that_need_a_hint_have_one_and_others_have_none(self) -> None:
+        """The other errors say by themselves what is wrong."""
         for error in ("lab: principal 2: bad name or key", "lab: node 0: owner and owners", "lab: node 1: identifier out of range",
                       "lab: node 1: identifier stands twice", "lab: principal 1: name stands twice", "lab: node 1: owner stands twice",
                       "lab: link 3: stands twice", "lab: too many nodes", "lab: events is out of its limits",
@@ -80,6 +81,8 @@ class Check(InRoom):
         self.assertEqual(call_class("check", self.room / "none.toml").returncode, 4)
 
     def test_keys_of_a_table_that_the_format_does_not_have_are_named_with_a_suggestion(self) -> None:
+        """Since the wrong key `link` is ignored, the network has no links. The other warnings of the first lab follow
+        from this."""
         self.warns("line 3: link isn't known here, so it is ignored. Did you mean links?", "node 11 has no neighbour",
                    "node 12 has no neighbour", "node 17 has no neighbour", "the network isn't connected: it has 3 parts",
                    "no node is privileged at the beginning", change=("links =", "link ="))
@@ -88,6 +91,8 @@ class Check(InRoom):
         self.warns("line 20: colour isn't known here, so it is ignored", change=('owner = "ana"', 'owner = "ana"\ncolour = "red"'))
 
     def test_a_person_s_key_is_named_if_it_is_public_or_easy_to_guess(self) -> None:
+        """The second key has ten different letters. Each counts as drawn from at most twice as many characters, so the
+        key has at most 10 log2 20 bits, which is about 43. A character repeated 60 times has hardly any bits."""
         self.warns("the key of ana is that of an example lab", change=("1f3b5a7c9d1e2f48a6b8c0d2e4f61357", "a-key"))
         self.warns("the key of ana may be easy to guess: it has at most 43 bits, and guessing it takes at most",
                    change=("1f3b5a7c9d1e2f48a6b8c0d2e4f61357", "abcdefghij"))
@@ -110,6 +115,8 @@ class Check(InRoom):
             self.assertEqual(warned, [f"the key of ana may be easy to guess: it has at most {warning}. It may take much less"] if warning else [], key)
 
     def test_the_time_in_which_a_key_can_be_guessed_has_a_fitting_unit(self) -> None:
+        """The time follows from the bits of the key, and from the number of wrong keys that the server answers in a
+        second (`keys.DENIALS`, about 83)."""
         for key, time in (("amber-12", "1 hour"), ("abcdefghijkl", "14 million years"), ("abcdefghijklm", "944 million years"),
                           ("1234567890123456789", "4 billion years")):
             self.assertEqual(effort(key), time)
@@ -148,6 +155,8 @@ class Check(InRoom):
         self.assertIn("two students own nodes 1, 2, 3, 4, 5, 6, 7, 8, ...: ", call_class("check", self.room / "pairs.toml").stdout)
 
     def test_too_few_sessions_or_events_are_named_with_the_number_that_is_enough(self) -> None:
+        """For 3 nodes and 2 links the bound on moves is 3 * 3 + 2 * 2 = 13. With a closed step for each move, 26 events
+        are enough."""
         self.warns("`sessions` is 2, so the 2 students and the teacher can't all be connected at once. Raise `sessions` to 3",
                    change=("sessions = 4", "sessions = 2"))
         self.warns("`events` is 25, which may be too few: the class may need 13 moves and as many closed steps. Raise `events` to 26",
@@ -155,6 +164,8 @@ class Check(InRoom):
         self.says(0, change=("events = 1000", "events = 26"))
 
     def test_for_more_people_than_any_lab_has_sessions_several_labs_are_suggested(self) -> None:
+        """The limit on `sessions` leaves room for `most - 1` students beside the teacher. GOOD has two students, and
+        the test adds the others."""
         most = MOST["sessions"]
         for students, rest in ((most - 1, f"Raise `sessions` to {most}\n"),
                                (most, f"No lab can have more than {most}: make several labs by ./class new --groups\n")):
@@ -162,6 +173,8 @@ class Check(InRoom):
             self.says(5, f"warning: `sessions` is 4, so the {students} students and the teacher can't all be connected at once. {rest}", text=GOOD + more)
 
     def test_a_complete_network_of_256_nodes_needs_67072_events_which_a_lab_may_have(self) -> None:
+        """A run of n nodes and L links has at most 3n + 2 min(L, n²/4) moves. For this network, that is 33,536 moves.
+        Each move is an event, and so is the close after it."""
         self.assertLessEqual(67072, MOST["events"])
         for events, is_few in ((67071, True), (67072, False)):
             lab = self.room / f"{events}.toml"
@@ -232,6 +245,7 @@ class Tables(unittest.TestCase):
             self.assertEqual(self.hints(*lines, "sesions = 4"), [(len(lines) + 1, "sesions", "sessions")], lines)
 
     def test_unknown_keys_in_known_tables_in_braces_get_hints(self) -> None:
+        """The hints about keys outside of braces come first. Nothing inside of the unknown table `more` gets a hint."""
         self.assertEqual(self.hints("teacher = { nam = 'tess', key = 'k' }", "sesions = 4"),
                          [(2, "sesions", "sessions"), (1, "nam", "name")])
         self.assertEqual(self.hints("teacher = { name = 'tess', more = { keys = 1 } }"), [(1, "more", None)])
@@ -244,6 +258,8 @@ class Tables(unittest.TestCase):
             self.assertEqual(self.hints("node = [{ id = 1 }]", line, "sesions = 4"), [(3, "sesions", "sessions")], line)
 
     def test_a_table_is_found_by_its_name_and_its_index_among_those_of_this_name(self) -> None:
+        """The rows have the lines of the tables of each name. For an index after the last one there is no table. The
+        student in the table of the teacher isn't one of the lab's students."""
         text = """student = [{ name = 'ana', note = { a = 1 } },
             { name = 'ben' }]
             node = [

@@ -270,6 +270,7 @@ class Installed(InRoom):
             self.assertEqual((digest, size), (f"sha256={wanted}", str(len(files[file]))))
 
     def test_in_a_clone_the_wheel_is_made_with_the_client_of_the_folder_classroom(self) -> None:
+        """There the client isn't in the package's folder, but in the folder `classroom` beside it."""
         (self.room / "classroom").mkdir()
         shutil.move(self.source / "client.py", self.room / "classroom/client.py")
         self.test_a_wheel_is_the_client_with_its_metadata()

@@ -22,6 +22,8 @@ class Clocks(unittest.TestCase):
     """Times of the day, and warnings."""
 
     def test_the_end_is_the_next_such_time_of_day_unless_it_is_over_twelve_hours_away(self) -> None:
+        """At 10:02 the next 10:45 is on the same day, and at 23:00 the next 00:30 is on the day after. At 10:02 the
+        next 09:45 is over twelve hours away, so that time counts as passed."""
         self.assertEqual(next_time("10:45", NOW), datetime(2026, 11, 24, 10, 45))
         self.assertEqual(next_time("00:30", datetime(2026, 11, 24, 23, 0)), datetime(2026, 11, 25, 0, 30))
         with self.assertRaisesRegex(ValueError, "^--ends 09:45: it is 10:02 already. Name a later time$"):
@@ -93,6 +95,7 @@ class Names(unittest.TestCase):
             "jean-le-bon": "Jean B."})
 
     def test_whole_names_in_lines_events_and_labs_are_replaced(self) -> None:
+        """A name that is a part of a longer word stays. So does an event without a name."""
         names = ShownNames.of(self.lab(), False)
         self.assertEqual(names.line("waiting for 1 (zoe-mueller): update, 2 (lukas-schmidt-2 and ana)"),
                          "waiting for 1 (Zoë M.): update, 2 (Lukas S. 2 and ana)")
@@ -114,6 +117,7 @@ class Wording(unittest.TestCase):
     """Texts of many events of one kind."""
 
     def test_up_to_six_moves_of_a_step_are_listed_and_more_are_counted_by_rule(self) -> None:
+        """18 of the 55 nodes are multiples of 3, and their rule is marriage."""
         moved = [(node, f"s{node}", "update" if node % 3 else "marriage") for node in range(1, 56)]
         self.assertEqual(wording.moves(moved[:2]), "node 1 (s1): update, node 2 (s2): update")
         self.assertEqual(wording.moves(moved), "55 moves, 37 update, 18 marriage")

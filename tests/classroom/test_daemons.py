@@ -65,7 +65,9 @@ class Alone(unittest.TestCase):
             self.assertEqual(len(movers(Daemon(kind, 1000), [4, 2, 9], random.Random(1))), 3)
 
     def test_shaken_registers_point_at_neighbours_and_break_sets_a_start_with_a_long_recovery(self) -> None:
-        """The same seed gives the same registers. `longest_start` returns those that the command `break` sets."""
+        """The same seed gives the same registers. `longest_start` returns those that the command `break` sets. In these
+        networks, m is true at each node, and a node points at its highest neighbour if that one is higher. The last
+        node points at none, since each of its neighbours is lower and points at it."""
         nodes, links = [1, 2, 3, 4], [(1, 2), (2, 3), (3, 4)]
         found = shaken(nodes, links, "all", 5)
         self.assertEqual(found, shaken(nodes, links, "all", 5))
@@ -127,6 +129,8 @@ class Striking(unittest.TestCase):
         self.assertEqual(desk.done, [1, 2, 4, "close of [3]"])
 
     def test_releasing_ends_after_a_few_rounds_if_a_move_is_granted_again_each_time(self) -> None:
+        """The move of node 2 is granted again whenever it has been released, so it is still there at the close, beside
+        the move of node 3, which was granted first."""
         desk = StandInDesk([2] * 100)
         Striker().strike(desk)  # type: ignore[arg-type]
         self.assertEqual(desk.done[-1], "close of [2, 3]")
@@ -163,6 +167,8 @@ class Refusing(InRoom):
                 self.client.close.assert_not_called()
 
     def test_if_a_release_is_refused_as_memory_the_daemon_tries_it_again(self) -> None:
+        """The first strike ends without a close and without a printed line. The second one releases the move and
+        closes."""
         self.client.release.side_effect = Refused("memory")
         self.striker.strike(self.desk)
         self.client.close.assert_not_called()

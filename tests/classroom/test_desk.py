@@ -43,6 +43,7 @@ class Forms(unittest.TestCase):
     """Commands by themselves."""
 
     def test_a_command_has_one_form_and_for_any_other_line_the_error_says_what_to_write(self) -> None:
+        """An empty line counts as `wait`. A number in digits that aren't ASCII is refused too."""
         for line in ("close", "fault 1 2 true", "fault 1 null false", "fault 1 - false", "link 1 2", "cut 1 2", "release 3", "report",
                      "wait", "who", "every 5", "every 0.5", "when-idle 2", "by-hand", "help", "end"):
             self.assertEqual(parse_command(line), line.split())
@@ -86,6 +87,7 @@ class Words(Cycle):
     """Runs in which commands are typed."""
 
     def test_while_the_network_is_not_stable_only_two_ends_in_a_row_end_the_run(self) -> None:
+        """Another line between them, even a wrong one, makes the next `end` the first one again."""
         going = Going(self, CYCLE, "--close", "by-hand")
         going.type("end")
         going.until("^the network isn't stable yet \\(privileged nodes: 3\\). Type `end` once more to end the run anyway$")
@@ -316,6 +318,8 @@ class Disk(InRoom):
     """Lines about the room on the disk, and about the limit on the size of files."""
 
     def test_a_line_is_printed_when_the_disk_is_nearly_full_full_or_has_room_again(self) -> None:
+        """The disk is nearly full if fewer than 65,536 bytes are free, and full if none is. A line is printed only when
+        this changes."""
         told = self.lines_about(self.disk(), 10**9, 65536, 65535, 4096, 0, 0, 10**9, 10**9)
         self.assertEqual(told, [[], [], ["the disk is nearly full"], [], ["the disk is full"], [], [ROOM_AGAIN], []])
 
@@ -351,8 +355,8 @@ class Disk(InRoom):
         self.assertEqual(self.lines_about(DiskRoom(self.room / "none"), 10**9), [[]])
 
     def test_a_line_is_printed_when_the_journal_is_near_the_limit_on_the_server_s_files_and_at_it(self) -> None:
-        """The stand-in for the server is a process with a limit of 100,000 bytes. Without a limit, no line is
-        printed."""
+        """The stand-in for the server is a process with a limit of 100,000 bytes. The journal is near the limit if it
+        can grow by fewer than 65,536 bytes. Without a limit, no line is printed."""
         server = subprocess.Popen(["sleep", "1000"], preexec_fn=lambda: resource.setrlimit(resource.RLIMIT_FSIZE, (100_000, 100_000)))
         self.addCleanup(server.wait)
         self.addCleanup(server.kill)
@@ -388,7 +392,7 @@ class Memory(InRoom):
             desk.read()
             self.assertEqual(desk.known.is_old, is_old)
         self.assertEqual(desk.known.report, reports[1])
-        self.assertEqual(len(lines), 1)
+        self.assertEqual(len(lines), 1)  # the line about the fault
         with self.assertRaises(Refused):
             desk.known.ask_report()
 
@@ -397,8 +401,9 @@ class NewKey(InRoom):
     """A desk that can't connect to the server again after the command `key`, which restarts the server."""
 
     def end_after(self, signal_word: str, error: Exception) -> tuple[str, list[str]]:
-        """Types `key gus` at a desk, and then queues the word of a signal. Each attempt to connect to the desk fails by
-        `error`. Returns the reason for which the desk ends the run, and the lines that it prints."""
+        """Types `key gus` at a desk, and then queues `signal_word`, the text by which the desk learns of a signal. Each
+        attempt of the desk to connect to the server fails by `error`. Returns the reason for which the desk ends the
+        run, and the lines that it prints."""
         lab, it, client, lines = labs.read(CYCLE), unittest.mock.Mock(), unittest.mock.Mock(), list[str]()
         it.has_ended.side_effect = chain(repeat(False, 20), repeat(True))  # If the signal is lost, the reason is `died`.
         client.report.return_value = Report(0, False, (), (), (), ())
@@ -418,10 +423,12 @@ class NewKey(InRoom):
             return attend(desk, it, False, run.typed, room, lambda: None), lines
 
     def test_another_process_can_take_the_desk_then(self) -> None:
+        """LEAVE stands for the signal by which another process asks for the desk."""
         for error in (Refused("busy"), Closed("no answer in 30 seconds")):
             self.assertEqual(self.end_after(LEAVE, error)[0], "left")
 
     def test_a_signal_then_ends_the_run_after_one_more_try_to_connect(self) -> None:
+        """NOW stands for the signal that ends the run at once. The printed line is about the one more try."""
         for error in (Refused("busy"), Closed("no answer in 30 seconds")):
             why, lines = self.end_after(NOW, error)
             self.assertEqual(why, "end")
@@ -439,6 +446,8 @@ class NotDone(Cycle):
         self.assertRegex(done.stderr, f"^{line}\n$")
 
     def test_a_wrong_port_lab_or_folder_gets_an_error_line(self) -> None:
+        """The status is 1 for a wrong command line, and 4 for a file or folder that can't be used. No run makes a
+        folder."""
         into = self.room / "runs"
         for word, port in (("--port", "65536"), ("--port", "0"), ("--page", "70000"), ("--page", "x")):
             self.says(1, f"class run: argument {word}: {port} isn't a port: write a number from 1 to 65535; class run --help prints what to type",

@@ -144,13 +144,15 @@ class AtDoor(InRoom):
         return run
 
     def record(self, run: Path, students: int, page: int | None = None, play: int | None = None) -> None:
-        """Writes the file `run.json` with these ports into the folder of a run. The token of the page to look at is
-        `look-token`."""
+        """Writes the file `run.json` into the folder of a run. It has the port `students` of the network's server, and
+        the ports of the page for the projector (`page`) and of the page to play (`play`), if there are such pages. The
+        token of the page to look at is `look-token`."""
         me = Process.of(os.getpid())  # This process stands for the desk and the server, so that the run goes on.
         Record("lab.toml", students, 1, page, "by-hand", None, me, me, play, looks="look-token").write(run)
 
     def lines(self, name: str, last: bytes = b"") -> Lines:
-        """Makes a network whose server is a `Lines` of this name, and returns that server."""
+        """Makes a network with the name `name` whose server is a `Lines` with this name and this last line, and returns
+        that server."""
         it = Lines(name, last)
         self.addCleanup(it.listener.close)
         self.network(name, it.port)
@@ -251,6 +253,7 @@ class Bots(AtDoor):
             self.assertEqual(me.ask(do="look", node=1)["by"], "maths-2")
 
     def test_a_client_sends_nothing_to_a_door_with_another_certificate_than_its_slip_names(self) -> None:
+        """This holds for the module, the client by hand and the tunnel. The network's server gets no line."""
         seen = self.lines("maths").taken
         other = self.slip("maths", "0" * 64)
         with self.assertRaisesRegex(NoDoor, "^the door at 127.0.0.1:.* has another certificate than your slip names, so nothing was sent$"):
@@ -298,6 +301,7 @@ class Bots(AtDoor):
                     Client.of(Slip(4711, "gus", "heron-31", (1,), f"127.0.0.1:{full.getsockname()[1]}", "maths", "0" * 64))
 
     def test_a_client_finds_no_server_until_its_network_has_one_again_at_another_port(self) -> None:
+        """The door reads the new port from the file `run.json` in the run's folder."""
         first = self.lines("maths")
         with Client.of(self.slip("maths")):
             pass
@@ -312,6 +316,8 @@ class Bots(AtDoor):
             self.assertEqual(me.ask(do="see", node=1)["by"], "again")
 
     def test_a_client_that_sends_nothing_gets_late_after_more_than_five_seconds(self) -> None:
+        """The door waits ten seconds for a first byte. They may begin before the test's own count, so the test asks
+        only for five."""
         self.lines("maths")
         it, begun = self.raw("maths"), time.monotonic()
         self.assertEqual(it.makefile("rb").readline(), b'{"refuse":"late"}\n')
@@ -368,6 +374,7 @@ class Restarts(InRoom):
         self.assertEqual([line[:len(start)] for line, start in zip(told, wanted, strict=True)], wanted)
 
     def test_a_door_counts_as_ended_too_often_only_if_its_process_fails_once_more_after_five_restarts(self) -> None:
+        """An end with status 0, and an end while the door is closed, are no failures."""
         again = ["the process of the door has ended unexpectedly, with status 3. The door is opened again"] * opening.TIMES
         failed = [3] * opening.TIMES
         self.check_lines([*failed, 3], [*again, "the process of the door has ended too often, so the door stays closed. "])
@@ -405,6 +412,7 @@ class Tunnels(AtDoor):
                 self.assertEqual([json.loads(line)["ok"] for line in it.makefile("rb")], ["see", "bye"])
 
     def test_for_wrong_arguments_a_taken_port_or_no_door_the_tunnel_prints_an_error_line(self) -> None:
+        """The status is 1 for wrong arguments and for a taken port, and 4 if there is no door."""
         self.lines("maths")
         plain = self.room / "plain.slip"
         plain.write_text("port 4711\nname gus\nkey heron-31\n", encoding="utf-8")
@@ -464,6 +472,8 @@ class Pages(AtDoor):
         self.assertEqual(self.bots.taken, [])
 
     def test_no_path_leads_to_the_page_to_act(self) -> None:
+        """`look-token` is the last part of the address of the page to look at. Whoever knows it can't reach the page of
+        the token `act-token`, from which a class is commanded, nor send a command."""
         for path in ("/maths/look/act-token/", "/maths/look/act-token/act", "/maths/look/look-token/../act-token/", "/maths/look/look-token%2f",
                      "/maths/look/", "/maths/act-token/act", "/maths/a/b", "/other/", "/", "/maths/look/look-token/events?x"):
             self.assertEqual(self.asks(path)[0], 404, path)
@@ -493,6 +503,8 @@ class Pages(AtDoor):
             self.assertEqual(self.asks("/maths/", host)[0], status, host)
 
     def test_a_request_of_a_wrong_form_or_size_is_answered_with_its_status(self) -> None:
+        """The status is 400 for a wrong form, 405 for a method other than GET and POST, 431 for a head that is too
+        long, and 413 for a body that is too long."""
         many = b"A: " + b"x" * 9000
         for text, status in ((b"GET / HTTP/1.1\r\nA b\r\n\r\n", b"400"), (b"GARBAGE\r\n\r\n", b"400"), (b"PUT / HTTP/1.1\r\n\r\n", b"405"),
                              (b"GET / HTTP/1.1\r\n" + many + b"\r\n\r\n", b"431"), (b"GET / HTTP/1.1\r\nHost: a\r\nHost: b\r\n\r\n", b"400"),
@@ -522,6 +534,8 @@ class Pages(AtDoor):
         self.assertEqual(self.bots.taken, [])
 
     def test_a_request_that_does_not_end_is_cut_off_after_some_seconds(self) -> None:
+        """The door waits five seconds for the head of a request. They may begin before the test's own count, so the
+        test asks only for two."""
         it = self.raw("")
         it.sendall(b"GET /maths/ HTTP/1.1\r\n")
         begun = time.monotonic()
@@ -529,6 +543,7 @@ class Pages(AtDoor):
         self.assertGreater(time.monotonic() - begun, 2)
 
     def test_a_client_may_send_lines_with_the_server_name_of_a_browser(self) -> None:
+        """A browser sends the name of the door's host. If there is only one network, this name leads to it."""
         it = self.raw("localhost")
         it.sendall(b'{"do":"see"}\n')
         self.assertEqual(json.loads(it.makefile("rb").readline())["by"], "maths")
@@ -585,7 +600,7 @@ class Crowds(AtDoor):
             except ConnectionError:
                 pass
         files = Path(f"/proc/{self.door.child.pid}/fd")
-        self.wait(lambda: len([*files.iterdir()]) < 40)
+        self.wait(lambda: len([*files.iterdir()]) < 40)  # A door has fewer open files than this if it has no connections.
         self.assertIsNone(self.door.child.poll())
         self.assertEqual((self.door.folder / "door.txt").read_text(encoding="utf-8"), "")
 

@@ -109,6 +109,7 @@ class Doors(unittest.TestCase):
                 time.sleep(0.1)
 
     def test_a_hundred_connections_can_be_made_before_the_server_accepts_one(self) -> None:
+        """A server that keeps only a few connections waiting would let one of them time out."""
         web = self.unserved()
         self.addCleanup(web.close)
         for _ in range(100):

@@ -97,6 +97,7 @@ class Disks(InRoom):
         self.assertRegex(done.stderr, f"^class: {disk}/2.*-practise: No space left on device; name another folder by --into$")
 
     def test_a_bot_whose_slip_can_not_be_written_is_not_tried(self) -> None:
+        """Here each attempt to write a text fails, as on a full disk. Both bots get a result with the reason."""
         told = argparse.Namespace(timeout=20.0, memory=512, own_rule=False, at_once=2)
         plan = suites.SMALL[0]
         case = suites.planned(plan, 1, plan.daemon)
@@ -161,6 +162,8 @@ class Folders(InRoom):
     """Folders without correct labs."""
 
     def test_for_a_missing_folder_no_labs_or_a_wrong_one_a_line_says_what_to_do(self) -> None:
+        """The status is 4 if the folder can't be read, and 2 if it has no lab or a lab is refused. Nothing is
+        graded."""
         (self.room / "empty").mkdir()
         (self.room / "wrong").mkdir()
         (self.room / "wrong/one.toml").write_bytes(os.urandom(50))

@@ -41,9 +41,9 @@ class Counts(unittest.TestCase):
     """Counted rounds, and the nodes that daemons choose."""
 
     def test_a_round_ends_when_each_node_has_moved_or_was_not_privileged(self) -> None:
-        """A `Recovery` counts the moves, steps and rounds. `step` has the nodes that moved, and those that are
-        privileged after the step. The numbers at the end are the proved bounds for some networks, given by nodes and
-        links."""
+        """A `Recovery` counts the moves, steps and rounds. It gets the nodes that are privileged at the beginning.
+        `step` gets the nodes that moved, and those that are privileged after the step. The numbers at the end are the
+        proved bounds for some networks, given by nodes and links."""
         one = Recovery([1, 2, 3])
         one.step([1], [2, 3])
         self.assertEqual(one.rounds, 0)
@@ -70,7 +70,7 @@ class Counts(unittest.TestCase):
         self.assertEqual({len(movers(Daemon("central"), [3, 1, 2], chance)) for _ in range(50)}, {1})
         self.assertEqual({node for _ in range(50) for node in movers(Daemon("central"), [3, 1, 2], chance)}, {1, 2, 3})
         counts = [len(heads(range(100), 0.3, chance)) for _ in range(100)]
-        self.assertTrue(2500 < sum(counts) < 3500)
+        self.assertTrue(2500 < sum(counts) < 3500)  # 10,000 coins, each of which shows heads with the chance 0.3
         self.assertEqual(len(heads([7], 1e-9, chance)), 1)
 
 
@@ -135,6 +135,8 @@ class Words(InRoom):
         self.assertIn("20 of at most 40 moves (8 nodes, seed 1)", " ".join(lines[3]))
 
     def test_the_table_and_the_chart_have_all_runs_also_after_an_interruption(self) -> None:
+        """Each run has to be stable and within the bounds. Under the central daemon each closed step has one move, and
+        under the synchronous daemon each closed step is a round."""
         table, plot = self.room / "runs.csv", self.room / "runs.svg"
         done = call_class("experiment", *TINY, "--csv", table, "--plot", plot)
         self.assertEqual(done.returncode, 0, done.stdout + done.stderr)
@@ -167,6 +169,8 @@ class Words(InRoom):
         self.assertEqual(sorted(table.read_text(encoding="utf-8").splitlines()), sorted(line.rstrip("\n") for line in lines))
 
     def test_an_interrupt_keeps_the_rows_that_are_in_the_table(self) -> None:
+        """The experiment has so many runs that it is still going on when its table has a row. Then it gets the signal
+        of Ctrl-C."""
         table = self.room / "runs.csv"
         going = subprocess.Popen([sys.executable, TOP / "class", "experiment", "--nodes", "30", "--runs", "20000", "--csv", table],
                                  stdout=subprocess.PIPE, stderr=subprocess.STDOUT, text=True,

@@ -77,8 +77,9 @@ class Far(InRoom):
         return status, size
 
     def test_forty_four_students_play_in_four_networks_through_one_door(self) -> None:
-        """Only the door can be reached. A server that is killed is resumed. In the end all networks are stable, and the
-        marks have all students."""
+        """Each of the two rooms has 22 students, too many for the seats of one network, so it gets two. Only the door
+        can be reached. A server that is killed is resumed. In the end all networks are stable, and the marks have all
+        students."""
         labs = self.new(44, "--groups-by", "Room")
         self.assertEqual([lab.stem for lab in labs], ["maths-1", "maths-2", "maths-3", "maths-4"])
         with (self.room / "maths-slips.csv").open(encoding="utf-8", newline="") as it:

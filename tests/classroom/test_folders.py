@@ -201,6 +201,7 @@ class Hostile(Disputed):
         self.assertIsNone(Record.read(folder))
 
     def test_a_record_of_another_lab_is_refused_unless_only_a_key_differs(self) -> None:
+        """`mark` then prints the marks with a warning, so its status is 5. `history` prints only an error."""
         text = (self.run_folder / "record" / "lab").read_text(encoding="utf-8")
         key = re.search(r'(?m)^key = "(.*)"$', text)
         assert key is not None

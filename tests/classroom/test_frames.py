@@ -54,6 +54,8 @@ class Replayed(unittest.TestCase):
         self.assertEqual((run[10].pairs, run[10].stable, run[10].moves, run[10].number), ([(2, 3)], True, 6, 4))
 
     def test_a_picture_has_a_text_about_each_node_for_screen_readers(self) -> None:
+        """The texts are compared at three places: at the beginning, after two granted moves, and at the end of the
+        run."""
         lab, frames = frames_of(BUILT_IN, TOP / "examples" / "whole-run.journal")
         drawing = drawing_of(lab)
         said = [re.findall(r'role="img" aria-label="([^"]*)"', drawing.svg(frame.state, None)) for frame in frames]

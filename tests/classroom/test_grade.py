@@ -66,8 +66,8 @@ def faulty(fault: str) -> Bot:
 
 
 def try_case(bot: Bot, plan: str, limits: Limits, room: Path) -> Result:
-    """Tries a bot in the case of a plan of the suite `small`, with the seed 1 and the plan's daemon. Writes the record
-    of the case below the folder `room`. Returns the result."""
+    """Tries a bot in the case of a plan of the suite `small`, with the seed 1 and the plan's daemon. `limits` are those
+    of the time and memory of the bot. Writes the record of the case below the folder `room`. Returns the result."""
     it = PLANS[plan]
     with tempfile.TemporaryDirectory() as own:
         found = try_bot(bot, suites.planned(it, 1, it.daemon), limits, Path(own), room / bot.name / plan, threading.Event())
@@ -235,6 +235,7 @@ class Kept(InRoom):
         return [each["seed"] for each in json.loads(self.table.read_text(encoding="utf-8"))]
 
     def test_a_second_interrupt_writes_the_results_that_the_file_lacks(self) -> None:
+        """Only the first result is written at once. The first interrupt asks the grade to stop, and writes nothing."""
         stop = grade.catch_interrupts(self.written)
         for result in self.results:
             self.written.add(result)
@@ -363,8 +364,9 @@ class Calls(InRoom):
         self.assertEqual(whys["kills"], {"the bot was ended: it killed the process that watches it"})
 
     def reasons_of_fighters(self, labs: Path, *more: str) -> dict[str, set[str]]:
-        """Grades bots that kill or halt their keeper, or replace their output file, together with a correct bot. Checks
-        that only the correct one passes. Returns the reasons for which each bot failed."""
+        """Grades bots that kill or halt their keeper, or replace their output file, together with a correct bot. The
+        labs are those of the folder `labs`, and `more` are further options. Checks that only the correct bot passes.
+        Returns the reasons for which each bot failed."""
         table = self.room / "cases.json"
         faults = ("swaps-output", "halts", "kills", "right")
         done = call_class("grade", *(f"python3 {FAULTY} {fault}" for fault in faults), "--labs", labs, "--timeout", "60", "--into", self.room / "grades",

@@ -43,7 +43,7 @@ class Served(unittest.TestCase):
     def setUp(self) -> None:
         """Starts the hall of a class with two networks. The list `acts` gets the lines that the hall accepts."""
         self.acts: list[str] = []
-        self.hall = hall.opened(a_port(), "<maths>", self.acts.append, state_of_two())
+        self.hall = hall.open_hall(a_port(), "<maths>", self.acts.append, state_of_two())
         self.addCleanup(self.hall.close)
 
     def test_each_address_has_its_own_state_and_page_without_the_other_token(self) -> None:
@@ -62,6 +62,8 @@ class Served(unittest.TestCase):
             self.assertEqual(ask(f"http://127.0.0.1:{self.hall.server_port}/{path}")[0], 404, path)
 
     def test_lines_are_accepted_only_at_the_address_to_act_and_only_in_a_known_form(self) -> None:
+        """An accepted line gets the status 204, and a line of another form 400. At the address to look at each line
+        gets 404, and so does a line that is too long."""
         for line in ("2: close", "all: shake 3", "maths-1: shake all", "1: end", "2: resume"):
             self.assertEqual(ask(f"{self.hall.address_to_act}act", line)[0], 204, line)
             self.assertEqual(ask(f"{self.hall.address}act", line)[0], 404)

@@ -75,8 +75,8 @@ class Page(unittest.TestCase):
             NetworkState(number, f"maths-{number}", "AB"[number // 3], 4710 + number, f"http://127.0.0.1:9/{number}/", 15, 4,
                          "down" if number == 2 else "runs", DOWN if number == 2 else "", states[number - 1]) for number in range(1, 5)
         ], [f"maths-1: configuration {number}: 5 (Zoë M.) update" for number in range(1, 9)])
-        self.hall = hall.opened(a_port(), self.state.title, lambda line: None, self.state, None,
-                                lambda: [hall.view(Path(room.name), lab) for lab, _ in self.labs])
+        self.hall = hall.open_hall(a_port(), self.state.title, lambda line: None, self.state, None,
+                                   lambda: [hall.view(Path(room.name), lab) for lab, _ in self.labs])
         self.addCleanup(self.hall.close)
 
     def open(self, address: str) -> None:

@@ -26,7 +26,8 @@ class Slips(InRoom):
     """Labs for four students in two rooms."""
 
     def new(self, *more: str | Path, status: int = 0, **environment: str) -> str:
-        """Makes the labs by `./class new` with these options, and checks the status. Returns the output."""
+        """Makes the labs by `./class new` with the options `more`, and checks the status. `environment` is added to the
+        environment. Returns the output."""
         students = self.file("list.csv", "Name,Email,Room\nZoë Müller,z@x.example,A 1\nBen,b@x.example,B 2\nCyd,c@x.example,A 1\nDan,,B 2\n")
         done = call_class("new", self.room / "maths.toml", "--students", students, "--groups-by", "Room", "--family", "path", *more, **environment)
         self.assertEqual(done.returncode, status, done.stdout + done.stderr)
@@ -60,9 +61,10 @@ class Made(Slips):
     """The files that `new` makes."""
 
     def test_each_slip_has_the_ssh_line_of_its_own_network(self) -> None:
+        """A network has the students of one room. A slip of this kind names no door, and no certificate is made."""
         self.new("--ssh", "student@class.example")
         for number, names in ((1, ("zoe-mueller", "cyd")), (2, ("ben", "dan"))):
-            port, page = 4710 + number, 4789 + number
+            port, page = 4710 + number, 4789 + number  # By default the ports of network 1 are 4711 and 4790.
             line = f"ssh -N -L {port}:127.0.0.1:{port} -L {page}:127.0.0.1:{page} student@class.example"
             self.assertEqual(self.page(number).count(f"<code>{line}</code>"), len(names))
             for name in names:

@@ -215,6 +215,8 @@ class Told(Disputed):
             self.assertNotIn("\x1b", text)
 
     def test_the_link_of_an_entry_moves_the_player_to_the_entry_s_place(self) -> None:
+        """The list beside the player has the eight entries of gus and the step. The entry whose link is clicked came
+        after three events."""
         folder = self.end(self.disputed())
         page = self.room / "gus.html"
         self.history(folder, "-o", page)
@@ -242,8 +244,9 @@ class Verified(Disputed):
     """Records that were changed, and the verdicts on them."""
 
     def denied(self, folder: Path) -> tuple[dict[str, int | None], bool]:
-        """Returns how many lines of gus `./class mark` counts as denied, by clause, and as malformed, without counts of
-        zero. A count is None if it isn't known. Also returns whether the record is whole."""
+        """Returns how many lines of gus `./class mark` counts as denied, by clause, and as malformed, for the run in a
+        folder. Leaves out counts of zero. A count is None if it isn't known. Also returns whether the record is
+        whole."""
         run = json.loads(call_class("mark", folder, "--json").stdout)["runs"][0]
         gus = run["students"]["gus"]
         return {column: gus[column] for column in COLUMNS if gus[column] != 0}, run["whole"]

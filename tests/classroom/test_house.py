@@ -90,11 +90,11 @@ class Alone(unittest.TestCase):
         self.assertEqual(house.due([1, 2, 3, 4, 5, 6, 7], 1e9), [])
 
     def test_an_owner_called_house_that_owns_a_node_alone_is_an_ordinary_student(self) -> None:
-        """`held` returns the nodes at which the house may play. It may play nowhere in the changed lab."""
-        self.assertEqual(self.lab.held(), [1, 2, 3, 4, 5, 6, 7])
+        """`house_nodes` returns the nodes at which the house may play. It may play nowhere in the changed lab."""
+        self.assertEqual(self.lab.house_nodes(), [1, 2, 3, 4, 5, 6, 7])
         self.assertEqual(self.lab.without_house(), read(CYCLE))
         self.lab.nodes[0].owners.remove("gus")
-        self.assertEqual((self.lab.held(), self.lab.without_house()), ([], self.lab))
+        self.assertEqual((self.lab.house_nodes(), self.lab.without_house()), ([], self.lab))
 
 
 @unittest.skipUnless(host(), "not tried: no host is built")
@@ -133,6 +133,7 @@ class Standing(InRoom):
         return found
 
     def test_each_node_has_two_owners_and_the_house_no_slip(self) -> None:
+        """The slips for printing don't have the key of the house. Each of the four says that the house may play."""
         self.assertEqual(list(self.lab.students), ["ana-lima", "gus-roy", "house-2", "eva-sol", HOUSE])
         self.assertTrue(all(node.owners[1] == HOUSE and len(node.owners) == 2 for node in self.lab.nodes))
         self.assertFalse(self.slip(HOUSE).exists())
@@ -197,6 +198,7 @@ class Standing(InRoom):
         self.assertEqual(set(self.grants(going.folder)), {HOUSE})
 
     def test_after_play_the_house_plays_a_student_s_nodes_and_after_stop_it_no_longer_does(self) -> None:
+        """The house moves at no other nodes than those of gus-roy, and makes no move after `stop`."""
         going = Going(self, self.made, "--daemon", "by-hand")
         going.type("play gus-roy")
         nodes = self.lab.nodes_of("gus-roy")

@@ -62,7 +62,8 @@ class Bots(Cycle):
     """The behaviour of the bots in a run."""
 
     def test_bots_in_several_languages_make_a_network_stable_together(self) -> None:
-        """If fewer than four bots can run here, the example in Python plays for the other students."""
+        """If fewer than four bots can run here, the example in Python plays for the other students. A run from this
+        lab's start has more than ten events, that is, granted moves and closed steps."""
         going = Going(self, CYCLE, "--close", "when-idle:0.5", "--until", "stable")
         for number, name in enumerate(("gus", "hana", "ines", "jonas")):
             others = [*bots().values()]

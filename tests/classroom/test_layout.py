@@ -37,7 +37,8 @@ def renamed(nodes: list[int], links: Links, seed: int) -> tuple[list[int], Links
 
 
 def viewed(word: str, size: int = 15) -> tuple[View, Links]:
-    """Returns the drawing of a network of the family `word` for a screen, with names, and its links."""
+    """Returns the drawing of a network of the family `word` for a screen, with names, and its links. The network has
+    `size` nodes unless `word` has a size."""
     nodes, links = network(word, size)
     return view_of({node: [NAMES[node % len(NAMES)]] for node in nodes}, links, WIDE), links
 
@@ -46,9 +47,9 @@ class Shapes(unittest.TestCase):
     """The shape of a network is recognised from its links alone, and is visible."""
 
     def shape(self, word: str, size: int = 15, seed: int = 0) -> tuple[str, Layout, list[int]]:
-        """Makes a network of the family `word`, and lays it out. Returns the kind of shape that was recognised, the
-        layout, and the nodes in the order in which the family lists them. With a seed, the nodes have random
-        identifiers."""
+        """Makes a network of the family `word`, with `size` nodes unless `word` has a size, and lays it out. Returns
+        the kind of shape that was recognised, the layout, and the nodes in the order in which the family lists them.
+        With a seed, the nodes have random identifiers."""
         nodes, links = network(word, size)
         if seed:
             nodes, links = renamed(nodes, links, seed)
@@ -87,7 +88,8 @@ class Shapes(unittest.TestCase):
                     self.assertLess(above[0][1], below[0][1])
 
     def test_a_path_is_drawn_in_rows_and_turns_back_at_the_end_of_each_row(self) -> None:
-        """All links are level but those from one row to the next. A path of seven nodes has only one row."""
+        """All links are level but those from one row to the next. Each link is longer than 2.9 radii of a disc, so that
+        it can be seen between its nodes. A path of seven nodes has only one row."""
         for size in (2, 5, 9, 15, 40):
             for seed in (0, 3):
                 _, layout, nodes = self.shape("path", size, seed)
@@ -187,7 +189,8 @@ class Springs(unittest.TestCase):
 
     def test_both_methods_unfold_a_grid_that_lacks_a_link(self) -> None:
         """In a network of at most FEW_NODES nodes, each node is pulled by all others, and in a larger one only by some
-        of them, the pivots."""
+        of them, the pivots. An unfolded grid has few tangles (crossings, and nodes on links), here at most two. No two
+        nodes are nearer to each other than LEAST."""
         for word in ("grid:9x8", "grid:10x9"):
             nodes, links = network(word)
             links.remove((11, 12))
@@ -274,8 +277,9 @@ class Labels(unittest.TestCase):
             self.assertEqual(view_of({node: ["ana"] for node in nodes}, links, field).labels, {})
 
     def test_texts_are_large_enough_for_a_laptop_and_a_phone(self) -> None:
-        """A laptop with 1280 pixels shows the field for screens nearly at its full size, and a phone shows its
-        own."""
+        """A laptop with 1280 pixels shows the field for screens nearly at its full size, and a phone shows its own.
+        With 12.7 units of the field, a text has the pixels that `test_shown` requires: 12 on a laptop and 11 on a
+        phone."""
         for word in (*FAMILIES, "grid:8x8"):
             for field in (WIDE, TALL):
                 nodes, links = network(word)

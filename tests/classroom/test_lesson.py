@@ -115,9 +115,9 @@ class Lesson(InRoom):
         return going.folder
 
     def run_on_full_disk(self, folder: Path) -> None:
-        """Continues the run with a limit on the size of the server's files, which stands for a full disk. Makes faults
-        until the journal reaches the limit and the run ends. At first all files are below the limit. The largest one
-        may be the desk's record, which has each denied close."""
+        """Continues the run in a folder with a limit on the size of the server's files, which stands for a full disk.
+        Makes faults until the journal reaches the limit and the run ends. At first all files are below the limit. The
+        largest one may be the desk's record, which has each denied close."""
         journal = folder / "journal"
         most = max(file.stat().st_size for file in (journal, *(folder / "record").iterdir())) // 1024 + 1
         # Without the signal XFSZ, a write beyond the limit fails, as on a full disk.
@@ -133,8 +133,9 @@ class Lesson(InRoom):
         self.check_end(bots, 0, 4, 6)
 
     def run_second_half(self, folder: Path) -> None:
-        """Continues the run in a terminal, closes the terminal, and takes over the desk by `./class attach`. Ends the
-        run when each student has an applied move and the network is stable. Checks that all programs end."""
+        """Continues the run in a folder in a terminal, closes the terminal, and takes over the desk by `./class
+        attach`. Ends the run when each student has an applied move and the network is stable. Checks that all programs
+        end."""
         terminal = InTerminal(self, "run", "--resume", folder)
         terminal.type(b"fault 3 null true\n", b": fault at node 3: p null, m true; ")
         bots = self.bots(list(self.lab.students))
@@ -172,8 +173,8 @@ class Lesson(InRoom):
             time.sleep(0.05)
 
     def check_marks(self, folder: Path) -> None:
-        """Checks that the marks of all students are in the order and form of the list, and match the journal. Also
-        checks that the desk's lines about faults are in `run.txt`."""
+        """Checks the marks of the run in a folder: those of all students are in the order and form of the list, and
+        match the journal. Also checks that the desk's lines about faults are in `run.txt`."""
         self.assertRegex(call("audit", folder / "lab.toml", folder / "journal").output, "^ok: .*, stable\n$")
         done = call_class("mark", folder, "--roster", self.list, "--total")
         self.assertEqual((done.returncode, done.stderr), (0, ""))

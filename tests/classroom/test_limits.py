@@ -102,7 +102,8 @@ class Asks(InRoom):
 
     def test_new_and_experiment_obey_the_limits_that_the_program_prints(self) -> None:
         """The program prints smaller limits than usual. Nine students in one room need three labs of four students at
-        most, since one of five sessions is the teacher's."""
+        most, since one of five sessions is the teacher's. The labs get the students in turn. Names are cut to four
+        characters, with a number if the name is taken."""
         text = TEXT
         for name, most in (("nodes", 9), ("sessions", 5), ("events", 500), ("name", 4), ("identifier", 99)):
             text = re.sub(rf"(?m)^{name} \d+", f"{name} {most}", text)

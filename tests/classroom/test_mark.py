@@ -20,7 +20,7 @@ from classroom.core import program
 from classroom.core.answering import replies_to
 from classroom.core.printable import printable
 from classroom.core.tally import DENIED
-from classroom.marks.mark import marked
+from classroom.marks.mark import run_of_journal
 from classroom.pages import replay
 from model import read_lab
 from tests.classroom.help import EXAMPLES, LIMIT, InRoom, call_class
@@ -111,6 +111,8 @@ class Mark(InRoom):
                           **dict.fromkeys((*DENIED, "access_denials", "stale_denials", "chosen_denials", "guard_denials"))})
 
     def test_each_of_30_000_events_is_counted(self) -> None:
+        """Each second event is a fault. The events between them remove the link of the nodes 11 and 12 and add it
+        again, in turn."""
         lab = self.file("lab.toml", GOOD.replace(*PAIR).replace("events = 1000", "events = 100000"))
         lines = [f"{2 * k + 1} {2 * k} {'cut' if k % 2 == 0 else 'link'} 11 12\n{2 * k + 2} {2 * k + 1} fault 12 17 true\n"
                  for k in range(15_000)]
@@ -122,7 +124,7 @@ class Mark(InRoom):
         way."""
         lab = self.file("lab.toml", GOOD.replace(*PAIR))
         journal = self.file("journal", "1 0 grant ana 11 seduction\n2 0 close\n")
-        self.assertEqual(marked(lab, journal).tally.events, 2)
+        self.assertEqual(run_of_journal(lab, journal).tally.events, 2)
         for old, new, error in (
             ('"ok":"move"', '"deny":"guard"', '"rule":"seduction"} by {"at":0,'),
             ('"place":2', '"place":3', "the program counted its event 2 as event 3"),
@@ -135,7 +137,7 @@ class Mark(InRoom):
                 return replies.replace(old, new)
 
             with mock.patch.object(replay, "replies_to", another), self.assertRaises(program.Fault) as fault:
-                marked(lab, journal)
+                run_of_journal(lab, journal)
             self.assertIn(error, str(fault.exception))
 
     def test_illegal_journals_arguments_in_the_wrong_order_and_missing_files_are_refused(self) -> None:

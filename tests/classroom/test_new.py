@@ -140,6 +140,8 @@ class New(InRoom):
             self.assertIn(f"{nodes} nodes, {links} links, 5 students", self.new("--family", family, "--start", "random"))
 
     def test_links_are_read_from_a_file_and_an_error_has_the_number_and_text_of_its_line(self) -> None:
+        """A line of the file is a link. It may have a comment, or a hyphen between the two nodes, and empty lines are
+        left out."""
         links = self.file("links", "1 2\n2 7 # a far one\n\n7-9\n")
         self.assertIn("4 nodes, 3 links", self.new("--links", str(links)))
         self.clean()
@@ -304,7 +306,7 @@ class New(InRoom):
         self.assertIn("none of them is called who", done.stderr)
 
     def test_networks_and_numbers_that_are_impossible_are_refused_and_no_file_is_made(self) -> None:
-        """The status for too many events is 2, since the program refuses the lab."""
+        """The status for too many events is 2, that of a lab that is refused."""
         for more in (["--family", "ring"], ["--family", "random:5:3"], ["--family", "grid:0x4"], ["--nodes", str(MOST["nodes"] + 1)],
                      ["--events", str(MOST["events"] + 1)], ["--family", "cycle", "--nodes", "2"]):
             self.new(*more, status=2 if "--events" in more else 1)

@@ -16,7 +16,8 @@ from classroom.core.program import TOP
 from tests.classroom.help import LIMIT, InRoom
 
 NOTEBOOK = TOP / "course/how-long.ipynb"
-# A small table in the form of `experiment --csv`, and texts that the cells print about it.
+# A small table in the form of `experiment --csv`, and texts that the cells print about it. With 4 nodes, the median of 12 and
+# 14 moves is 13, and the bound is 20. With twice as many nodes there are twice as many moves, so the power is 1.
 HEADS = "family,nodes,links,daemon,start,seed,moves,closes,rounds,stable\n"
 ROWS = ("crowd,4,4,central,worst,1,12,12,6,true", "crowd,4,4,central,worst,2,14,14,5,true", "crowd,8,16,central,worst,1,26,26,7,true",
         "random:6:9,6,9,synchronous,random,1,16,7,6,true")

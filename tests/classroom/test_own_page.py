@@ -37,7 +37,7 @@ ITEM = re.compile(r'<li><a href="#p=(\d+)">([^<]*)</a>(.*?)</li>')
 
 
 def items(page: str) -> list[tuple[str, str, str]]:
-    """Returns the place, the moment and the text of each entry beside the player."""
+    """Returns the place, the moment and the text of each entry beside the player. `page` is the text of the page."""
     return [(place, after, unescape(re.sub("<[^>]*>", "", rest))) for place, after, rest in ITEM.findall(page)]
 
 

@@ -80,8 +80,8 @@ class Live(InRoom):
         return shown(self.driver)
 
     def ask(self, verb: str, path: str, body: str | bytes | None = None, **head: str) -> tuple[int, bytes]:
-        """Sends a request with the headers `head` to the page's server. Returns the status and the bytes of the
-        answer."""
+        """Sends a request to the page's server, with this verb, path and body and the headers `head`. Returns the
+        status and the bytes of the answer."""
         connection = http.client.HTTPConnection("127.0.0.1", urlsplit(self.address).port or 0, timeout=60)
         try:
             connection.request(verb, path, body, head)

@@ -102,6 +102,7 @@ class Pictures(InRoom):
         return output
 
     def test_a_picture_of_a_configuration_has_the_colours_of_each_theme(self) -> None:
+        """The picture shows the configuration after 9 events, in which something has each of these colours."""
         lab = EXAMPLES / "cycle.toml"
         journal = journal_of(lab, EXAMPLES / "cycle-run.script", self.room / "journal")
         for theme, more in ((colours.LIGHT, ()), (colours.DARK, ("--dark",))):

@@ -26,7 +26,8 @@ class OneConduct(unittest.TestCase):
 
     def test_after_many_old_numbers_a_move_of_a_node_that_it_never_looked_at_is_no_error(self) -> None:
         """The program looks at node 1 in the configurations 1 and 2, and then keeps asking with the old number 1 until
-        this is noted as a fault. After that, a move of node 9 raises no exception, and the first fault stays noted."""
+        this is noted as a fault. After that, a move of node 9 raises no exception, and the first fault stays noted. The
+        program pauses before each line (the last argument of `take`), which is right."""
         conduct = Conduct()
         for at in (1, 2):
             conduct.take({"do": "look", "node": 1}, {"ok": "look", "node": 1, "at": at}, True)
@@ -52,7 +53,8 @@ class Practise(InRoom):
         return Path(found[1])
 
     def test_a_right_bot_comes_to_a_stable_end(self) -> None:
-        """The printed counts of moves and steps are those of the printed steps, and the journal passes the audit."""
+        """The printed counts of moves and steps are those of the printed steps, and the journal passes the audit. The
+        printed bounds are those of the grid's 6 nodes and 7 links."""
         done = self.practises(EXAMPLES / "bot.py", "--family", "grid:3x2", "--node", "2,5", "--daemon", "synchronous", "--seed", "4")
         self.assertEqual(done.returncode, 0, done.stdout + done.stderr)
         self.assertRegex(done.stdout, r"^network: grid:3x2, 6 nodes; start: hurt; daemon: synchronous; your nodes: 2, 5\n")
@@ -81,6 +83,7 @@ class Practise(InRoom):
         self.assertRegex(done.stdout, r"(?m)^the run is given up, since no bot is running any longer; it waits for seduction at node 1 \(you\), ")
 
     def test_with_the_default_options_the_student_s_nodes_need_all_four_rules(self) -> None:
+        """The last line has the rules of the granted moves, and names no rule that was never asked for."""
         done = self.practises(EXAMPLES / "bot.py")
         self.assertEqual(done.returncode, 0, done.stdout + done.stderr)
         self.assertRegex(done.stdout, r"\nyou: \d+ granted moves \(update, marriage, seduction, abandonment\), \d+ denials?( \(.*\))?\n$")
@@ -100,17 +103,18 @@ class Practise(InRoom):
         name, key = re.findall("=([^&]+)", address)  # The address ends with `#name=NAME&key=KEY`.
         rows = Rows(address.partition("#")[0], name, key)
         self.addCleanup(rows.connection.close)
-        token, rules = rows.next()["token"], []
+        token, answers = rows.next()["token"], []
         while "ended" not in (row := rows.next()):
             for look in row.get("nodes", []):
                 if look["rule"] and not look["chosen"]:
-                    rules.append(self.move(address, {"token": token, "node": look["node"], "at": row["at"], "rule": look["rule"]}
-                                           | ({"with": look["pointing"][0]} if look["rule"] == "marriage" else {})))
-        self.assertIn("move", rules)
+                    answers.append(self.move(address, {"token": token, "node": look["node"], "at": row["at"], "rule": look["rule"]}
+                                             | ({"with": look["pointing"][0]} if look["rule"] == "marriage" else {})))
+        self.assertIn("move", answers)
         self.assertEqual(going.wait(LIMIT), 0)
 
     def move(self, address: str, asked: dict[str, object]) -> str:
-        """Asks the page's server for a move. Returns `move` if it is granted, or the name of the denial."""
+        """Asks the page's server at an address for a move. `asked` has the values of the request. Returns `move` if it
+        is granted, or the name of the denial."""
         parts = urlsplit(address)
         connection = http.client.HTTPConnection("127.0.0.1", parts.port or 0, timeout=LIMIT)
         with contextlib.closing(connection):
@@ -119,12 +123,16 @@ class Practise(InRoom):
         return str(told.get("ok") or told.get("deny"))
 
     def test_the_last_line_has_the_bot_s_moves_denials_and_unused_rules(self) -> None:
+        """The bot plays node 1 of a path of two nodes: it seduces node 2, and updates after node 2 has married it. A
+        bot that sends lines without a pause may also be said to flood the server."""
         done = self.practises(f"python3 {FAULTY} floods", "--family", "path", "--nodes", "2", "--node", "1", "--start", "clean")
         self.assertEqual(done.returncode, 0, done.stdout + done.stderr)
         self.assertRegex(done.stdout, r"\nyou: 2 granted moves \(update, seduction\), \d+ denials?.*; rules that were never asked for: marriage, abandonment"
                                       r"(; the bot floods the server: it sends line after line .*)?\n$")
 
     def test_a_bot_that_never_pauses_is_said_to_flood_the_server(self) -> None:
+        """Under this daemon nobody closes a step. So the run is given up when nothing has happened for 10 seconds, and
+        the printed line has the reason."""
         done = self.practises(f"python3 {FAULTY} floods", "--family", "path", "--nodes", "3", "--node", "1", "--daemon", "by-hand", "--timeout", "10")
         self.assertEqual(done.returncode, 5, done.stdout + done.stderr)
         self.assertIn("; the bot floods the server: it sends line after line without a pause; a bot waits a tenth of a second when it has looked at all "

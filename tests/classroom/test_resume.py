@@ -50,7 +50,9 @@ class Players:
             client.hang_up()
 
     def turn(self, nodes: list[Node], students: dict[str, Client], teacher: Client) -> None:
-        """Asks for the enabled move of each node. If no node has one, the second teacher causes a fault at node 1."""
+        """Asks for the enabled move of each node, as its first owner. `students` has the connections by their names. If
+        no node has an enabled move, and `disturbs` is set, the second teacher, whose connection is `teacher`, causes a
+        fault at node 1."""
         is_idle = True
         for node in nodes:
             student = students[node.owners[0]]
@@ -189,7 +191,8 @@ class Resume(Cycle):
         return limited
 
     def test_a_run_that_a_full_disk_has_ended_continues_when_there_is_room(self) -> None:
-        """More faults are typed than the journal has room for. No line says that the server has ended by itself."""
+        """110 faults are typed, and the journal of 2 kB has room for over 80 of them, but not for all. No line says
+        that the server has ended by itself."""
         going = Going(self, CYCLE, "--close", "by-hand", MML_HOST=str(self.limited(2)))
         going.type("\n".join(["fault 1 2 true"] * 110))
         line = going.until("^nothing more is granted: ")
@@ -252,6 +255,7 @@ class Resume(Cycle):
         self.assertEqual(again.end(), 0, again.lines)
 
     def test_a_run_that_used_all_its_events_continues_after_its_limit_is_raised(self) -> None:
+        """The lab allows two events, a move and its close. The limit is raised in the lab in the run's folder."""
         lab = self.file("cycle.toml", re.sub(r"(?m)^events = \d+", "events = 2", CYCLE.read_text(encoding="utf-8")))
         going = Going(self, lab, "--close", "by-hand")
         with Client(going.port, "gus", KEYS["gus"]) as gus:

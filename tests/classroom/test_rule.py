@@ -42,6 +42,7 @@ class Expressions(unittest.TestCase):
             self.assertEqual(value(expression), wanted, expression)
 
     def test_an_expression_with_an_unknown_value_is_a_dash_unless_the_rest_decides(self) -> None:
+        """In ROW the value of `clause4` is unknown."""
         for expression, wanted in (
             ("clause4", "-"), ("clause4 + 1", "-"), ("clause4 <= 5", "-"), ("clause4 <= 5 and false", "no"), ("false and clause4 <= 5", "no"),
             ("clause4 <= 5 and true", "-"), ("clause4 <= 5 or true", "yes"), ("true or clause4 <= 5", "yes"), ("false or clause4 <= 5", "-"),
@@ -113,6 +114,8 @@ class InMarks(InRoom):
                                           "points = min(3, applied) * nodes\nwhere = network\n")
 
     def test_each_form_of_the_marks_has_the_columns_of_the_rule(self) -> None:
+        """Gus has fewer than two applied moves per node, so he doesn't pass, whatever `guard_denials` is. For the
+        others it isn't known whether they pass."""
         rows = list(csv.DictReader(io.StringIO(call_class("mark", "--csv", "--rule", self.rule, self.lab, self.journal).stdout)))
         wanted = {"gus": ("2", "no", "no", "6"), "hana": ("2", "-", "yes", "6"), "ines": ("2", "-", "yes", "6"), "jonas": ("1", "-", "yes", "3")}
         self.assertEqual({row["student"]: (row["nodes"], row["pass"], row["enough"], row["points"]) for row in rows}, wanted)

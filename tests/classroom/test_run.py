@@ -17,6 +17,7 @@ class Run(Cycle):
     """Runs of the cycle of `examples/`."""
 
     def test_a_run_until_stable_ends_by_itself_with_all_its_files(self) -> None:
+        """A run from this lab's start has more than ten events, that is, granted moves and closed steps."""
         going = Going(self, CYCLE, "--close", "when-idle:0.3", "--until", "stable")
         for name in KEYS:
             self.bot(going, name)
@@ -62,6 +63,7 @@ class Run(Cycle):
         self.assertGreaterEqual(self.check_complete(going.folder), 4)
 
     def test_a_bot_in_java_plays_beside_bots_in_python(self) -> None:
+        """All four owners have a bot, so the run ends by itself once the network is stable."""
         if shutil.which("java") is None:
             self.skipTest("not tried: java")
         going = Going(self, CYCLE, "--close", "when-idle:0.5", "--until", "stable")

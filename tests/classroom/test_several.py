@@ -140,8 +140,8 @@ class OneDesk(Classes):
         self.assertEqual([line for line in desk.lines[:first] if line.startswith(("maths-1", "maths-2"))], [], desk.lines)
 
     def check_subcommands(self, desk: GoingClass) -> None:
-        """Checks that `mark`, `history` and `key`, which take the folder of a run, also take that of a class. Changes
-        the key of jose-garcia."""
+        """Checks that `mark`, `history` and `key`, which take the folder of a run, also take that of a class, here the
+        ended class of `desk`. Changes the key of jose-garcia."""
         done = call_class("mark", "--csv", *(self.room / "runs").glob("*-maths"))
         self.assertEqual(done.returncode, 0, done.stderr)
         # Each of the eight students has a row, which names the journal.
@@ -212,6 +212,7 @@ class OneDesk(Classes):
         self.assertEqual(desk.wait_for_end(), 4, desk.lines)
 
     def test_in_a_resumed_class_too_a_network_that_has_lost_run_json_is_only_offered_to_be_given_up(self) -> None:
+        """The desk and both servers are killed, and neither of the networks can be resumed."""
         desk = self.begin("--close", "by-hand")
         desk.process.kill()
         desk.process.wait(LIMIT)

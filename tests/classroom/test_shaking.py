@@ -35,6 +35,8 @@ class Counted(unittest.TestCase):
         ])
 
     def test_a_fault_during_a_recovery_begins_the_count_anew(self) -> None:
+        """The two nodes point at each other, but their m is false. The step before the fault isn't counted. In the step
+        after it both nodes move, and the network is stable."""
         lab = labs.Lab(100, 2, ("teacher", "key"), {"ana": "key"}, [labs.Node(1, ["ana"], 2), labs.Node(2, ["ana"], 1)], [(1, 2)])
         text = ("1 0 grant ana 1 update\n2 0 close\n3 1 fault 1 2 false\n4 2 grant ana 1 update\n5 2 grant ana 2 update\n6 2 close\n")
         self.assertEqual(recoveries(lab, events(text)), [

@@ -317,6 +317,7 @@ class Talking(Cycle):
         return self.file(name, slip.read_text(encoding="utf-8").replace(old, new))
 
     def test_a_bot_with_a_wrong_key_or_node_names_the_slip_as_the_remedy(self) -> None:
+        """The status is 2 for the key, and 3 for the node."""
         going = Going(self, CYCLE, "--close", "by-hand")
         good = self.slip(going.port, "gus")
         for command in BOTS:
@@ -328,6 +329,9 @@ class Talking(Cycle):
             self.assertRegex(said.stderr, r"^\w+(\.py)?: a node isn't yours: take the nodes from your slip\n$")
 
     def test_with_a_dash_for_its_file_the_key_is_taken_from_the_environment(self) -> None:
+        """After the port, the name and the dash, a bot gets its nodes, here only 4. Then it may get the seconds after
+        which it ends if nothing was new. The client by hand and the teacher's program need no nodes. Without the
+        variable, the status is 1."""
         going = Going(self, CYCLE, "--close", "by-hand")
         words_of: tuple[str, ...] = (str(going.port), "gus", "-")
         said = call(*BOT, *words_of, "4", "0.5", key=KEYS["gus"])
@@ -343,6 +347,8 @@ class Talking(Cycle):
         self.assertEqual(call(*TEACHER, *words_of, key="another").returncode, 2)
 
     def test_with_a_dash_for_its_file_the_slip_is_taken_from_the_environment(self) -> None:
+        """After the dash, a bot may get the seconds after which it ends if nothing was new. The status is 1 if the
+        variable isn't set, or if the slip in it has no line with nodes."""
         going = Going(self, CYCLE, "--close", "by-hand")
         slip = self.slip(going.port, "gus").read_text(encoding="utf-8")
         said = call(*BOT, "-", "0.5", slip=slip)
@@ -370,8 +376,8 @@ class Talking(Cycle):
             self.assertEqual(bot.returncode, 0)
 
     def test_by_hand_each_line_gets_a_reply_and_a_wrong_one_also_a_note(self) -> None:
-        """The log has all lines, but no key. Further conversations have a line that is too long, a log that can't be
-        written, and a line that isn't UTF-8."""
+        """The log has all lines, but no key. It marks a sent line by `>`, a reply by `<`, and a note by `!`. Further
+        conversations have a line that is too long, a log that can't be written, and a line that isn't UTF-8."""
         going = Going(self, CYCLE, "--close", "by-hand")
         log = self.room / "log"
         said = call(*BY_HAND, self.slip(going.port, "gus"), "--log", log, typed='{"do":"look"}\n{"do":"look","node":4}\n{"do":"bye"}\n')

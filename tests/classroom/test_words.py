@@ -44,6 +44,7 @@ class Helped(InRoom):
         return set(done.stdout.split())
 
     def test_the_help_of_each_subcommand_has_an_example(self) -> None:
+        """There are more than eight subcommands. If `all_words` found none, the rest would check nothing."""
         self.assertGreaterEqual(len(all_words()), 8)
         for word in all_words():
             said = " ".join(call_class(word, "--help").stdout.split())

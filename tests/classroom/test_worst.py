@@ -19,7 +19,7 @@ Asked = tuple[int, str, int | None]  # a node, its rule, and its partner
 
 
 def made(family: str, nodes: int) -> labs.Lab:
-    """Returns a lab with a network of a family, at its worst start."""
+    """Returns a lab with a network of a family with `nodes` nodes, at its worst start."""
     it = network([labs.Node(node, []) for node in range(1, nodes + 1)], networks.links_of_family(family, nodes))
     set_registers(it, "worst", random.Random(1))
     return it
@@ -98,6 +98,7 @@ class Words(InRoom):
     """The start `worst` as an argument."""
 
     def test_new_and_experiment_accept_the_start_worst(self) -> None:
+        """The pointers in the lab are those of the worst start of a crowd of six nodes."""
         done = call_class("new", self.room / "crowd.toml", "--students", self.file("names.txt", "ana\nben\n"), "--family", "crowd",
                           "--nodes", "6", "--start", "worst")
         self.assertEqual(done.returncode, 0, done.stderr)

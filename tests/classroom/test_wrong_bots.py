@@ -176,7 +176,8 @@ class Right(InRoom):
     """Bots without a mistake."""
 
     def test_each_bot_ends_at_a_denial_that_shows_a_mistake(self) -> None:
-        """If one of a bot's threads ended without the others, the bot would keep running, but ask for no move."""
+        """If one of a bot's threads ended without the others, the bot would keep running, but ask for no move. The
+        status is 3, that of a denial as `not-owner`, or 1 for the bot that uses no module of the release."""
         with socketserver.ThreadingTCPServer(("127.0.0.1", 0), Server) as server:
             server.daemon_threads = True
             threading.Thread(target=server.serve_forever, daemon=True).start()

@@ -4,7 +4,7 @@ from __future__ import annotations
 import subprocess
 from pathlib import Path
 
-from model import Ended, ended
+from model import Ended, run_command
 from tests.common.hosting import HOST
 from tests.common.preload import LIMIT, PROGRAM, fail
 
@@ -14,7 +14,8 @@ OF_HOST = ("verify", "tally")
 
 
 def run_program(*words: str | Path) -> Ended:
-    """Runs the program that has this command with these arguments. Returns its status and output."""
+    """Runs a program with the arguments `words`, of which the first is the command: HOST for the commands OF_HOST, and
+    PROGRAM for all others. Returns its status and output."""
     call: list[str | Path] = [HOST if words[0] in OF_HOST else PROGRAM, *words]
     done = subprocess.run(call, stdin=subprocess.DEVNULL, capture_output=True, env=dict[str, str](), timeout=LIMIT, check=False)
     return Ended(done.returncode, done.stdout, done.stderr)
@@ -41,7 +42,7 @@ def agreed(what: str, *words: str | Path) -> Ended:
     """Runs the program and the model with these arguments, and returns the result. Fails if the two results differ.
     `what` names the call in the error."""
     found = run_program(*words)
-    compare(what, found, ended([str(word) for word in words]))
+    compare(what, found, run_command([str(word) for word in words]))
     return found
 
 
@@ -51,7 +52,7 @@ def agreed_script(what: str, lab: Path, script: Path, journal: Path) -> Ended:
     found = run_program("script", lab, script, journal)
     second = journal.with_suffix(".second")
     second.unlink(missing_ok=True)
-    compare(what, found, ended(["script", str(lab), str(script), str(second)]))
+    compare(what, found, run_command(["script", str(lab), str(script), str(second)]))
     if journal.read_bytes() != second.read_bytes():
         fail(f"{what}: another journal than the model's: {first_other(journal.read_bytes(), second.read_bytes())}")
     return found

@@ -41,7 +41,7 @@ def form(synopsis: str) -> str:
 
 
 def head(name: str, what: str) -> Iterator[str]:
-    """Yields the first lines of the man page `name`."""
+    """Yields the first lines of the man page `name`. `what` says in a few words what the command is for."""
     version = (TOP / "VERSION").read_text(encoding="ascii").strip()
     yield f'.TH {name.upper()} 1 "" "Cenduwa {version}" "Cenduwa"'
     yield from (".SH NAME", rf"{name} \- {plain(what)}")

@@ -39,8 +39,8 @@ def failing(library: Preloaded, kind: str, nth: int, error: str) -> dict[str, st
 
 
 def check_script(lab: Path, room: Path, library: Preloaded) -> None:
-    """Checks the end, the replies and the journal of a script whose second event can't be written, because the second
-    write fails."""
+    """Checks the end, the replies and the journal of a script whose second event can't be written, because `library`
+    makes the second write fail. The files are written into the folder `room`."""
     script, journal = room / "halted.script", room / "halted.journal"
     script.write_bytes(SCRIPT)
     journal.unlink(missing_ok=True)
@@ -50,8 +50,9 @@ def check_script(lab: Path, room: Path, library: Preloaded) -> None:
 
 
 def check_server(lab: Path, room: Path, library: Preloaded) -> None:
-    """Checks a server whose second event can't be written. The write that fails is the seventh one, after those of the
-    server's first line, of four replies and of the first event."""
+    """Checks a server whose second event can't be written, because `library` makes a write fail. This is the seventh
+    write, after those of the server's first line, of four replies and of the first event. The files are written into
+    the folder `room`."""
     journal = room / "halted.journal"
     journal.unlink(missing_ok=True)
     words = ["serve", str(lab)]
@@ -63,8 +64,8 @@ def check_server(lab: Path, room: Path, library: Preloaded) -> None:
 
 
 def check_unaccepted(lab: Path, library: Preloaded) -> None:
-    """Checks a server whose journal takes nothing, and which can't accept its second connection: the first one is
-    served to its end."""
+    """Checks a server whose journal takes nothing, and which can't accept its second connection, because `library`
+    makes this `accept` fail. The first connection is served to its end."""
     words = ["serve", str(lab)]
     server = Server(lambda port: [*words, str(port), "2", "/dev/full"], failing(library, "accept", 2, EMFILE))
     client = Client(server.port)

@@ -94,6 +94,8 @@ class Changes(unittest.TestCase):
     """The results of a small change to a line."""
 
     def test_a_line_is_changed_in_each_way_outside_of_texts_and_comments(self) -> None:
+        """The rows have a line and all its changes. An empty text means that the line is removed. A line with nothing
+        to change has no changes."""
         kinds = {"Kind": ["First", "Second"]}
         for line, wanted in (
             ("    a < b && c", ["    a <= b && c", "    a < b || c"]),

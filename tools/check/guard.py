@@ -16,7 +16,7 @@ from tools.check.signals import ALL
 PATIENCE = 8.0  # seconds that the processes of a killed check have to clear up
 
 
-def guarded(work: Callable[[Path], int]) -> int:
+def run_guarded(work: Callable[[Path], int]) -> int:
     """Calls `work` in a child process with a new folder for temporary files, and returns its status. Passes signals to
     the child. If the child is killed, ends all processes below it, and returns 128 plus the signal's number. If the
     guard is killed, the child gets SIGTERM."""

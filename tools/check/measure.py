@@ -47,8 +47,8 @@ class Checks:
         self.looked = 0.0  # the time of the last look
 
     def look(self, parts: dict[int, str]) -> None:
-        """Reads the processor times and the memory of all checks. Does nothing if less than PAUSE seconds have passed
-        since the last call that did. `parts` has the name of each running part, by its process."""
+        """Reads the processor times and the memory of all checks. Does nothing if they were last read less than PAUSE
+        seconds ago. `parts` has the name of each running part, by its process."""
         if time.monotonic() < self.looked + PAUSE:
             return
         self.looked = time.monotonic()

@@ -70,13 +70,14 @@ def set_process(option: int, value: int) -> None:
 
 
 def adopt_orphans() -> None:
-    """Makes this process the parent of each descendant whose parent ends, in whatever session it is."""
+    """Makes this process the parent of each descendant whose parent ends, in whatever session it is. Raises `OSError`
+    if the system refuses that."""
     set_process(PR_SET_CHILD_SUBREAPER, 1)
 
 
 def end_with_parent(parent: int) -> None:
     """Asks the system to send this process SIGTERM when its parent ends, and sends it at once if the parent isn't
-    `parent` any longer."""
+    `parent` any longer. Raises `OSError` if the system refuses that."""
     set_process(PR_SET_PDEATHSIG, signal.SIGTERM)
     if os.getppid() != parent:
         os.kill(os.getpid(), signal.SIGTERM)

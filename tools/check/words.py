@@ -9,7 +9,7 @@ from functools import partial
 
 from tools.check import chain
 from tools.check.checking import Stages, check
-from tools.check.guard import guarded
+from tools.check.guard import run_guarded
 from tools.check.lock import Taken, alone
 from tools.check.parts import PROOFS, QUICK, WRONG, minutes, minutes_of, proofs_of, uses, wrong_beside, wrong_of
 
@@ -90,7 +90,7 @@ def main(words: list[str] | None = None) -> int:
         return tell_chain(names, asked.table)
     try:
         with alone():
-            return guarded(partial(check, *stages_of(asked.word, names)))
+            return run_guarded(partial(check, *stages_of(asked.word, names)))
     except Taken:
         print("check: another ./check runs in this tree; this one did nothing", file=sys.stderr)
         return TAKEN

@@ -48,8 +48,8 @@ def words() -> argparse.Namespace:
 
 
 def all_plants(tree: Tree) -> list[Plant]:
-    """Returns the plants of all crates, in the order of `crates.txt`. Raises `PlantFault` if a file isn't a plant or
-    doesn't fit the sources."""
+    """Returns the plants of all crates of `tree`, the copy of the repository, in the order of `crates.txt`. Raises
+    `PlantFault` if a file isn't a plant or doesn't fit the sources."""
     return [plant for crate in tree.uses for plant in plants_of(crate, tree.folder(crate))]
 
 
@@ -62,7 +62,7 @@ def chosen(every: list[Plant], names: list[str]) -> list[Plant]:
     return [it for it in every if it.name in names or it.crate in names]
 
 
-def sees(plant: Plant, program: Path) -> tuple[bool, str]:
+def run_test(plant: Plant, program: Path) -> tuple[bool, str]:
     """Runs the test of a plant (a planted bug) with the program that has the plant. Returns whether the test fails with
     a line `FAILED: ..`, as it should. Also returns the last such line, or the last line of all if there is none. Raises
     `TimeoutExpired` after LIMIT seconds."""
@@ -75,13 +75,14 @@ def sees(plant: Plant, program: Path) -> tuple[bool, str]:
 
 def try_each(tree: Tree, plants: list[Plant]) -> int:
     """Builds the program with each plant in turn that names a test, runs the test, and prints the result. Returns the
-    exit status: 1 if a test doesn't fail. Raises `PlantFault` if a program doesn't compile."""
+    exit status: 1 if a test doesn't fail. `tree` is the copy of the repository. Raises `PlantFault` if a program
+    doesn't compile, and `TimeoutExpired` if a test takes too long."""
     missed, tested = 0, [plant for plant in plants if plant.test]
     with tempfile.TemporaryDirectory(prefix="mml-plant-") as room:
         for plant in tested:
             program = Path(room) / PROGRAM
             build(tree, PROGRAM, [plant], program)
-            is_seen, told = sees(plant, program)
+            is_seen, told = run_test(plant, program)
             missed += not is_seen
             print(f"{'seen' if is_seen else 'MISSED'}: {plant.name}: {told}", flush=True)
     print(f"{len(tested) - missed} seen, {missed} missed")
@@ -89,8 +90,9 @@ def try_each(tree: Tree, plants: list[Plant]) -> int:
 
 
 def try_proofs(tree: Tree, plants: list[Plant]) -> int:
-    """Asks the prover about each plant that names its function, and prints its verdict. Returns the exit status: 1 if
-    the prover accepts one or doesn't decide."""
+    """Asks the prover about each plant that names its function, and prints its verdict. `tree` is the copy of the
+    repository. Returns the exit status: 1 if the prover accepts one or doesn't decide. Raises `PlantFault` if one can't
+    be tried."""
     counts = Counter[str]()
     for plant, verdict in prove_all(tree, plants):
         counts[verdict] += 1
@@ -100,9 +102,10 @@ def try_proofs(tree: Tree, plants: list[Plant]) -> int:
 
 
 def try_drawn(tree: Tree, crates: list[str], number: int, seed: int) -> int:
-    """Draws plants in `number` functions of these crates, by the seed. If `crates` is empty, draws them in all crates
-    that aren't tests. Prints the prover's verdict on each function. Returns the exit status: 1 if the prover accepts a
-    plant or doesn't decide. Raises `PlantFault` if there is no such crate."""
+    """Draws plants in `number` functions of these crates of `tree`, the copy of the repository, by the seed. If
+    `crates` is empty, draws them in all crates that aren't tests. Prints the prover's verdict on each function. Returns
+    the exit status: 1 if the prover accepts a plant or doesn't decide. Raises `PlantFault` if there is no such crate,
+    or a library isn't built."""
     if unknown := [crate for crate in crates if crate not in tree.uses]:
         raise PlantFault(f"{unknown[0]}: there is no such crate")
     counts = Counter[str]()

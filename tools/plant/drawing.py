@@ -94,7 +94,7 @@ def sift(tree: Tree, crate: str, plants: list[Plant], running: Running) -> Itera
                 todo.append([plant for plant in tried if plant not in guilty])
 
 
-def programs(tree: Tree, crate: str, drawn: list[list[Plant]], running: Running) -> Iterator[tuple[Plant, bool]]:
+def plants_that_compile(tree: Tree, crate: str, drawn: list[list[Plant]], running: Running) -> Iterator[tuple[Plant, bool]]:
     """Yields for each function its first plant with which the crate passes the check of names and types, and True. If
     there is none, yields its last plant and False. `drawn` has the plants of each function."""
     todo = drawn
@@ -144,7 +144,7 @@ def ask_once(tree: Tree, crate: str, drawn: list[list[Plant]], kept: str, runnin
     """Yields for each function of a crate its first plant that compiles, or its last one, and the prover's verdict on
     it. `drawn` has the plants of each function, and `kept` the name of the folder in which the prover saves checked
     modules. One check of names and types and one proof are enough if each plant compiles, and none hinders another."""
-    sifted = [*programs(tree, crate, drawn, running)]
+    sifted = [*plants_that_compile(tree, crate, drawn, running)]
     yield from ((plant, NO_PROGRAM) for plant, is_program in sifted if not is_program)
     todo = [[plant for plant, is_program in sifted if is_program]]
     while todo:

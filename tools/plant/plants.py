@@ -44,7 +44,7 @@ class Plant:
         return f"{self.crate}/{self.edit.name.removesuffix('.edit')}"
 
 
-def marked(name: str, text: str, mark: str) -> list[str]:
+def words_after(name: str, text: str, mark: str) -> list[str]:
     """Returns the words after the mark `mark`, such as `# seen:`, in the text of a plant's file. WORDS has what the
     words of each mark mean. If there is no such line, returns as many empty texts. Raises `PlantFault` if the line has
     another form or occurs twice. `name` is that of the plant, for the error."""
@@ -56,7 +56,7 @@ def marked(name: str, text: str, mark: str) -> list[str]:
 
 def parse_plant(crate: str, name: str, text: str) -> Plant:
     """Returns the plant of a crate in the text of the file `name`. Raises `PlantFault` if the text isn't a plant."""
-    (function,), (module, test) = (marked(f"{crate}/{name}", text, mark) for mark in WORDS)
+    (function,), (module, test) = (words_after(f"{crate}/{name}", text, mark) for mark in WORDS)
     if not function and not test:
         raise PlantFault(f"{crate}/{name}: there is neither a line '{IN} FUNCTION' nor a line '{SEEN} MODULE TEST'")
     rest = "".join(line for line in text.splitlines(keepends=True) if not line.startswith(tuple(WORDS)))

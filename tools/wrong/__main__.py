@@ -51,8 +51,9 @@ def words() -> argparse.Namespace:
 
 
 def crates_of(tree: Tree, names: list[str]) -> list[str]:
-    """Returns the crates with these names, or all that have wrong bodies if there are no names. The one that is
-    expected to take longest is first. Exits with an error line if a name isn't that of a crate with wrong bodies."""
+    """Returns the crates of `tree` with these names, or all that have wrong bodies if there are no names. `tree` is the
+    copy of the repository. The one that is expected to take longest is first. Exits with an error line if a name isn't
+    that of a crate with wrong bodies."""
     for name in names:
         if name not in tree.uses or not tree.has_edits(name):
             sys.exit(f"tools.wrong: there is no crate {name} with wrong bodies")
@@ -62,7 +63,8 @@ def crates_of(tree: Tree, names: list[str]) -> list[str]:
 
 
 def say_rounds(tree: Tree, crates: list[str]) -> None:
-    """Prints for these crates which edits are tried together, and which files can't be applied as edits."""
+    """Prints for these crates of `tree`, the copy of the repository, which edits are tried together, and which files
+    can't be applied as edits."""
     for crate in crates:
         edits, faults = read_edits(tree.folder(crate))
         for number, it in enumerate(rounds_of(edits, tree.folder(crate)), 1):
@@ -72,8 +74,8 @@ def say_rounds(tree: Tree, crates: list[str]) -> None:
 
 
 def tried_of(tree: Tree, crates: list[str], asked: argparse.Namespace) -> Iterator[Tried]:
-    """Yields the result of each crate. If `asked`, the arguments of the command line, has `--as-proved`, a crate is
-    tried once it is proved, and otherwise at once."""
+    """Yields the result of each of these crates of `tree`, the copy of the repository. If `asked`, the arguments of the
+    command line, has `--as-proved`, a crate is tried once it is proved, and otherwise at once."""
     lanes, results = lane_count(asked.jobs), Results(asked.logs, Kept(None if asked.anew else folder_of_user()))
     if not asked.as_proved:
         yield from try_crates(tree, crates, lanes, results, Running())
@@ -86,8 +88,9 @@ def tried_of(tree: Tree, crates: list[str], asked: argparse.Namespace) -> Iterat
 
 
 def try_all(tree: Tree, crates: list[str], asked: argparse.Namespace) -> int:
-    """Tries the edits of crates, and prints a line for each crate, its faults, and how many edits passed. `asked` are
-    the arguments of the command line. Returns the exit status: 1 if an edit failed."""
+    """Tries the edits of these crates of `tree`, the copy of the repository. Prints a line for each crate, its faults,
+    and how many edits passed. `asked` are the arguments of the command line. Returns the exit status: 1 if an edit
+    failed."""
     done = []
     if asked.logs:
         asked.logs.mkdir(parents=True, exist_ok=True)

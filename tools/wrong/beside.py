@@ -1,4 +1,5 @@
-"""Tries the wrong bodies of crates while `rt ci` proves the crates, with the processors that it leaves idle."""
+"""Tries the wrong bodies of crates while `rt ci` proves the crates, with the processors that it leaves idle. In all
+functions here, `tree` is the copy of the repository."""
 from __future__ import annotations
 
 import contextlib

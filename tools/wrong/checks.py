@@ -1,5 +1,5 @@
 """Checks of crates by the prover that run side by side, and are ended by a signal to this process. A *round* is a check
-of a crate with several of its wrong bodies, the edits."""
+of a crate with several of its wrong bodies, the edits. In all functions here, `tree` is the copy of the repository."""
 from __future__ import annotations
 
 import os
@@ -97,9 +97,9 @@ def copy_crate(folder: Path, to: Path, texts: dict[str, str]) -> None:
 
 
 def try_round(tree: Tree, crate: str, tried: Round, room: Path, running: Running) -> Ended:
-    """Checks a copy of a crate with the edits of a round, and returns the result. If the check is killed, most likely
-    because memory ran out, it is run once more when no proofs are running. The folder `room` has what earlier rounds
-    proved."""
+    """Checks a copy of a crate with the edits of the round `tried`, and returns the result. If the check is killed,
+    most likely because memory ran out, it is run once more when no proofs are running. The folder `room` has what
+    earlier rounds proved."""
     copy, kept = room / "copy", room / "kept"
     kept.mkdir(exist_ok=True)
     copy_crate(tree.folder(crate), copy, tried.texts)

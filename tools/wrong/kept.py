@@ -3,7 +3,8 @@
 If all edits of a round were refused at their goals, a file notes it. The file's name is a hash of everything that the
 result depends on: the crate's files with the edits, the libraries below the crate, the prover, and this tool. So a
 change of one of these makes another name, and the round is tried again. `rt ci` keeps the results of proofs in the same
-way. Whoever can write to the folder of these files can make the tool skip a round.
+way. Whoever can write to the folder of these files can make the tool skip a round. In all functions here, `tree` is the
+copy of the repository.
 """
 from __future__ import annotations
 

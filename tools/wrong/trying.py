@@ -1,5 +1,6 @@
 """Tries the wrong bodies of crates: crates side by side, and the rounds of each crate one after another. A *round* is
-one check of a crate with several of its wrong bodies, the edits. In all functions here, `running` runs the checks."""
+one check of a crate with several of its wrong bodies, the edits. In all functions here, `tree` is the copy of the
+repository, and `running` runs the checks."""
 from __future__ import annotations
 
 import tempfile

@@ -27,7 +27,8 @@ SLEEP = "98765.25"  # an argument of the processes that are left running, by whi
 
 
 def ask(me: Client, look: Look) -> bool:
-    """Asks for the enabled rule of a look, like a correct bot. Returns whether the move was granted."""
+    """Asks for the enabled rule of a look, like a correct bot. Returns whether the move was granted. Raises a denial
+    that shows a mistake, that is, any other than `stale` and `chosen`."""
     try:
         me.move(look)
     except Denied as denied:
@@ -89,7 +90,7 @@ def never_updates(me: Client, look: Look) -> None:
 
 
 def marries_anyone(me: Client, look: Look) -> None:
-    """If any rule is enabled, asks for a marriage with its first neighbour."""
+    """If any rule is enabled at the node, asks for a marriage with the node's first neighbour, whatever the rule is."""
     if look.rule and not look.chosen:
         me.move(look, "marriage", look.near[0].node)
 
@@ -265,8 +266,8 @@ def spoils() -> None:
 
 
 def copies() -> None:
-    """Looks for the command of another bot, and runs it with its own slip. Ends with status 3 if it finds none for a
-    while."""
+    """Looks for the running command of another bot, and runs this command with the slip of this bot. Ends with status 3
+    if it finds no other bot for a while."""
     for _ in range(100):
         for each in Path("/proc").glob("[0-9]*"):
             try:

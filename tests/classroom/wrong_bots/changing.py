@@ -229,7 +229,7 @@ class GivesUpAtThreeDenials(Bot):
 
 
 class EndsAtMemory(Bot):
-    """Ends at the refusal `memory`."""
+    """Ends at any refusal. After one of them, `memory`, a bot has to ask again."""
 
     def turn(self) -> None:
         try:
