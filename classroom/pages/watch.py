@@ -117,7 +117,9 @@ class Watch:
         self.present = Present(self.state.copy(), closing)
 
     def note_event(self, event: Event) -> None:
-        """Notes an event of the journal, and the nodes that it may have changed."""
+        """Notes an event of the journal, and the nodes that it may have changed: those that it names, and, if it makes
+        a new configuration, those with a granted move. If the event is a link or a cut, also adds the link to the state
+        or removes it there."""
         state = self.state
         self.events.append(event)
         self.named.update(event.nodes)

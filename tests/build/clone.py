@@ -29,6 +29,7 @@ named = lambda name: (room / name).read_text() if (room / name).exists() else ""
 (room / "words").write_text(" ".join(sys.argv[1:]))
 (room / "seen").write_text("\\n".join(sorted(str(it) for it in pathlib.Path().rglob("*"))))
 (room / "temporary").write_text(os.environ["TMPDIR"])
+(room / "jobs").write_text(os.environ["RT_JOBS"])
 crates = re.findall(r"(?m)^(\\w+):", pathlib.Path("crates.txt").read_text())
 with (room / "runs").open("a") as it:
     it.write(" ".join(crates) + "\\n")

@@ -14,7 +14,9 @@ from pathlib import Path
 from tests.build.clone import LIMIT, InClone, is_there
 from tools.build.crates import expected, lines, needed
 from tools.build.progress import Progress, chains
-from tools.build.proving import at_once_of, jobs_of, processors
+from tools.build.place import Place
+from tools.build.proving import at_once_of, jobs_of, most_processes, processes_of, processors, width_for
+from tools.build.running import Run, Width
 
 USES: dict[str, list[str]] = {"a": [], "b": [], "c": ["a"], "d": ["b"], "e": ["c", "d"]}
 SECONDS = {"a": 10.0, "b": 100.0, "c": 50.0, "d": 20.0, "e": 5.0}
@@ -30,13 +32,13 @@ class Estimates(unittest.TestCase):
         one."""
         self.assertEqual(chains(USES, SECONDS), {"a": 65.0, "b": 125.0, "c": 55.0, "d": 25.0, "e": 5.0})
         progress = Progress(USES, SECONDS, 1)
-        for crate in "bacde":
-            self.assertEqual((progress.next(), progress.is_first(crate)), ([crate], True))
+        for crate, others in (("b", ["a"]), ("a", ["d"]), ("c", ["d"]), ("d", []), ("e", [])):
+            self.assertEqual((progress.next(), progress.is_first(crate)), ([crate, *others], True))
             progress.begun[crate] = 0.0
-            self.assertEqual(progress.next(), [])
+            self.assertEqual(progress.next(), others)
             progress.note(crate, False, 0.0)
         progress = Progress(USES, SECONDS, 2)
-        self.assertEqual((progress.next(), progress.is_first("b"), progress.is_first("a")), (["b", "a"], True, False))
+        self.assertEqual((progress.is_first("b"), progress.is_first("a")), (True, False))
         nearly = Progress(USES, {**SECONDS, "a": 65.0}, 2)
         self.assertEqual((nearly.longest["a"], nearly.is_first("b"), nearly.is_first("a")), (120.0, True, True))
 
@@ -57,14 +59,29 @@ class Estimates(unittest.TestCase):
         self.assertEqual(progress.line(0.0), "5 of 5 crates proved, 2 of them earlier")
 
     def test_the_processes_of_a_proof_and_the_proofs_at_once_by_processors(self) -> None:
-        """As many proofs run side by side as are needed to occupy all processors with their processes. If a proof has
-        several processes, one more proof runs, since such a proof begins and ends with a single process. RT_JOBS
-        replaces the number of processors, and then each proof has one process."""
+        """Proofs begin until their processes occupy all processors. If proofs have several processes, there may be one
+        process more, since such a proof begins and ends with a single process. RT_JOBS replaces the number of
+        processors, and then each proof has one process."""
         with unittest.mock.patch.dict(os.environ, {"RT_JOBS": ""}):
-            shares = [(number, jobs_of(number), at_once_of(number)) for number in (1, 2, 4, 6, 8, 16)]
-        self.assertEqual(shares, [(1, 1, 1), (2, 1, 2), (4, 2, 3), (6, 3, 3), (8, 4, 3), (16, 4, 5)])
+            shares = [(number, jobs_of(number), most_processes(number), at_once_of(number)) for number in (1, 2, 4, 6, 8, 16)]
+            widths = [processes_of(width, number) for number in (1, 2, 4, 16) for width in (Width.ONE, Width.USUAL, Width.ALL)]
+        self.assertEqual(shares, [(1, 1, 1, 1), (2, 1, 2, 2), (4, 2, 5, 3), (6, 3, 7, 3), (8, 4, 9, 3), (16, 4, 17, 5)])
+        self.assertEqual(widths, [1, 1, 1, 1, 1, 2, 1, 2, 4, 1, 4, 4])
         with unittest.mock.patch.dict(os.environ, {"RT_JOBS": "3"}):
-            self.assertEqual((processors(), jobs_of(3), at_once_of(3)), (3, 1, 3))
+            self.assertEqual((processors(), jobs_of(3), most_processes(3), at_once_of(3), processes_of(Width.ALL, 3)), (3, 1, 3, 3, 1))
+
+    def test_a_proof_has_several_processes_if_the_longest_chain_waits_for_it_or_processors_would_be_idle(self) -> None:
+        """The cases are those of a machine with four processors. A proof for which the longest chain waits has four
+        processes if no other could use one of them, and else two. Any other proof has one process, or two if there are
+        two idle processors for each crate that could begin."""
+        cases = (
+            (True, 4, 0, Width.ALL), (True, 4, 1, Width.USUAL), (True, 3, 0, Width.USUAL), (True, 0, 5, Width.USUAL),
+            (False, 4, 0, Width.USUAL), (False, 4, 1, Width.USUAL), (False, 4, 2, Width.ONE), (False, 2, 0, Width.USUAL),
+            (False, 1, 0, Width.ONE), (False, 0, 0, Width.ONE),
+        )
+        with unittest.mock.patch.dict(os.environ, {"RT_JOBS": ""}):
+            for is_first, idle, others, width in cases:
+                self.assertEqual(width_for(is_first, idle, others, 4), width, (is_first, idle, others))
 
     def test_the_time_that_is_left_follows_the_pace_of_the_machine(self) -> None:
         """If the machine takes twice as long as the table says, the remaining proofs are expected to take twice as long
@@ -121,6 +138,16 @@ class Builds(InClone):
         each = {crate: int(processors) for crate, _, processors in told[1:]}
         # A proof that gets all processors sees twice as many, since `rt` takes half of those that it sees (tools/build/wide.py).
         self.assertEqual((each["low"], each["left"], each["right"]), (2 * number, 2 * number, number))
+
+    def test_rt_is_limited_to_one_process_for_a_narrow_proof(self) -> None:
+        """A run of the width ONE sets RT_JOBS for `rt`, and the other widths leave it as it is."""
+        (self.clone / "crates.txt").write_text("low:\n", encoding="utf-8")
+        for width, jobs in ((Width.ONE, "1"), (Width.USUAL, "7"), (Width.ALL, "7")):
+            shutil.rmtree(self.clone / "crates/low/out", ignore_errors=True)
+            with unittest.mock.patch.dict(os.environ, self.environment(RT_JOBS="7"), clear=True):
+                run = Run(Place(self.clone, self.temporary, self.room / "log"), width, is_first=width is not Width.ONE)
+            self.assertEqual(run.process.wait(LIMIT), 0, (self.room / "log").read_text(encoding="utf-8"))
+            self.assertEqual((self.room / "jobs").read_text(encoding="utf-8"), jobs)
 
     def test_rt_sees_twice_the_memory_for_a_proof_that_runs_alone(self) -> None:
         """If no other proof can run beside one, `rt` is made to see twice the memory (`--alone` in

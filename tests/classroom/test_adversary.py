@@ -161,8 +161,9 @@ class Everywhere(Cycle):
     """The adversary in run, practise, grade and experiment."""
 
     def test_a_run_becomes_stable_under_the_adversary_also_after_a_break(self) -> None:
-        """The desk prints a line whenever the network is stable. The marks have the same lines. With the added link,
-        the cycle has 7 nodes and 8 links, so the bound on moves is 3 * 7 + 2 * 8 = 37."""
+        """`break` at the desk sets the registers of all nodes to a worst start. The desk prints a line whenever the
+        network is stable. The marks have the same lines. With the added link, the cycle has 7 nodes and 8 links, so the
+        bound on moves is 3 * 7 + 2 * 8 = 37. The bound on rounds of a network with 7 nodes is 13."""
         going = Going(self, CYCLE, "--daemon", "by-hand")
         for name in KEYS:
             self.bot(going, name)

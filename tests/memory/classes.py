@@ -184,13 +184,15 @@ class Class:
         return Outcome(ended, counts, fault, play.lacks, play.is_desk_alone)
 
     def fault_of(self, play: Play, ended: Ended, is_refused: bool, room: Path) -> str:
-        """Returns the first thing that is wrong with a class that has begun and ended, or an empty text. The replies must
-        be those of a script of the same lines. The journal must have the events that these replies granted, and may have
-        one more if the host ended during the run. If no request for memory was refused, every line must have got its
-        reply, and the host must have ended well. If one was refused, one line may have been sent again, and the host may
-        have ended because memory ran out. Fails if the journal doesn't pass the audit, or the record doesn't pass
-        `verify`. `play` has the lines and replies, `ended` is the end of the host, `is_refused` says whether a request
-        for memory was refused, and the class's files are in `room`."""
+        """Returns the first thing that is wrong with a class that has begun and ended, or an empty text. The replies
+        must be those of a script of the same lines. The journal must have the events that these replies granted, and
+        may have one more if the host ended during the run. If no request for memory was refused, every line must have
+        got its reply, and the host must have ended well. If one was refused, one line may have been sent again, and the
+        host may have ended because memory ran out. No session may have been lost after its greeting, unless the host
+        ended during the run. The replies to lines of the class before a resumed one, `play.known` in number, aren't
+        compared. Fails if the journal doesn't pass the audit, or the record doesn't pass `verify`. `play` has the lines
+        and replies, `ended` is the end of the host, `is_refused` says whether a request for memory was refused, and the
+        class's files are in `room`."""
         script, plain, journal = room / "script", room / "plain", room / "journal"
         script.write_bytes(b"".join(play.script))
         wanted = good(["script", str(self.lab), str(script), str(plain)]).splitlines(keepends=True)[play.known:]

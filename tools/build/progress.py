@@ -24,11 +24,11 @@ def chains(crates: Uses, seconds: dict[str, float]) -> dict[str, float]:
 
 
 class Progress:
-    """The crates that are proved, and those whose proofs are running, at most `at_once` side by side."""
+    """The crates that are proved, and those whose proofs are running."""
 
     def __init__(self, crates: Uses, seconds: dict[str, float], at_once: int) -> None:
         """Begins with no crate proved. `crates` are to be proved, `seconds` has the expected time of each proof, and
-        `at_once` is the most proofs that run side by side."""
+        `at_once` is the number of proofs that are expected to run side by side."""
         self.crates, self.seconds, self.at_once = crates, seconds, at_once
         self.longest = chains(crates, seconds)
         self.proved, self.kept = set[str](), set[str]()  # the proved crates, and those of them that an earlier run proved
@@ -42,8 +42,8 @@ class Progress:
         return sorted([crate for crate in left if proved.issuperset(self.crates[crate])], key=lambda crate: -self.longest[crate])
 
     def next(self) -> list[str]:
-        """Returns the crates whose proofs are to begin now, as many as may still run side by side."""
-        return self.can_begin(self.proved, {*self.begun})[:max(self.at_once - len(self.begun), 0)]
+        """Returns the crates whose proofs can begin now. The crate with the longest chain is first."""
+        return self.can_begin(self.proved, {*self.begun})
 
     def is_first(self, crate: str) -> bool:
         """Returns whether the chain that begins with this crate is the longest of the remaining ones, or nearly as

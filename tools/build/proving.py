@@ -4,7 +4,9 @@ A first run of all crates reuses the proofs that this machine has made before. T
 to prove something. Each remaining crate is then proved by a run of its own, which uses the proofs of the runs before.
 The reason is that `rt ci` uses several processes for a crate that is alone in its repository. For other crates `rt ci`
 mostly uses one process, and the crates above have to wait. A crate on the longest chain of waiting crates, or on one
-that is nearly as long, gets all processors, and is proved before the others.
+that is nearly as long, is proved before the others, and by several processes. A proof by several processes ends sooner,
+but uses more processor time. So the other crates are proved by one process each if there are enough of them to occupy
+the processors.
 
 If `rt ci` can't use the proofs of other runs, all crates are proved by a single run.
 """
@@ -19,7 +21,7 @@ from pathlib import Path
 from tools.build.crates import Uses, with_those_below
 from tools.build.place import Place, Room, take, take_library
 from tools.build.progress import Progress
-from tools.build.running import Run, Screen, can_keep
+from tools.build.running import Run, Screen, Width, can_keep
 
 POLL = 0.2  # seconds between two checks of the runs
 MOST_JOBS = 4  # processes of a proof, at most
@@ -44,12 +46,35 @@ def jobs_of(number: int) -> int:
     return 1 if wanted_processes() else max(1, min(MOST_JOBS, number // 2))
 
 
+def processes_of(width: Width, number: int) -> int:
+    """Returns the number of processes of a proof of this width on `number` processors. The result is always 1 if RT_JOBS
+    is set."""
+    most = min(MOST_JOBS, number)
+    return 1 if wanted_processes() else {Width.ONE: 1, Width.USUAL: jobs_of(number), Width.ALL: most}[width]
+
+
+def most_processes(number: int) -> int:
+    """Returns how many processes of proofs may run on `number` processors before no further proof begins. If proofs have
+    several processes, there is one process more than there are processors, since such a proof begins and ends with a
+    single process."""
+    return number + (jobs_of(number) > 1)
+
+
 def at_once_of(number: int) -> int:
-    """Returns the number of crates that are proved side by side on `number` processors. The result is the number of
-    proofs whose processes (`jobs_of`) occupy all processors. If a proof has several processes, one more crate is
-    proved, since each proof begins and ends with a single process."""
-    each = jobs_of(number)
-    return -(-number // each) + (each > 1)
+    """Returns the number of crates that are proved side by side on `number` processors, for an estimate of the time. The
+    result is the number of proofs of the usual width whose processes occupy all processors."""
+    return -(-most_processes(number) // jobs_of(number))
+
+
+def width_for(is_first: bool, idle: int, others: int, number: int) -> Width:
+    """Returns the width for the proof of a crate on `number` processors, of which `idle` have no process of a proof.
+    `others` is the number of other crates that could begin now. If `is_first` is set, the longest chain waits for the
+    crate. Such a proof gets all processors if there are enough idle ones for that and for one process of each other
+    crate. Otherwise it has the usual width. A proof for which the longest chain doesn't wait has one process, unless
+    its share of the idle processors is enough for the usual width."""
+    if is_first:
+        return Width.ALL if idle >= processes_of(Width.ALL, number) + others else Width.USUAL
+    return Width.USUAL if idle // (others + 1) >= jobs_of(number) else Width.ONE
 
 
 def has_memory() -> bool:
@@ -73,7 +98,7 @@ class Proving:
         try:
             if not can_keep():
                 return self.by_one_run()
-            whole = Run(self.room.place(self.crates), is_look=True)
+            whole = Run(self.room.place(self.crates))
             self.runs[""] = whole
             if self.wait_for_end(whole, until_proving=True):
                 return self.outcome(whole, self.crates)
@@ -120,7 +145,7 @@ class Proving:
         for that. Returns the log of the run if it failed, or None."""
         for run in self.runs.values():
             run.end()
-        whole = Run(self.room.place(self.crates))
+        whole = Run(self.room.place(self.crates), Width.ALL)
         self.runs = {"": whole}
         self.progress.proved.clear()
         self.progress.begun.clear()
@@ -128,13 +153,19 @@ class Proving:
         return self.outcome(whole, self.crates)
 
     def begin(self) -> None:
-        """Begins the proofs that are next in the order, as long as there is memory. One is begun in any case if no
-        other is running."""
-        for crate in self.progress.next():
-            if not self.runs or has_memory():
-                place = self.room.place(with_those_below([crate], self.crates))
-                self.runs[crate] = Run(place, self.progress.is_first(crate), is_alone=self.is_alone(crate))
-                self.progress.begun[crate] = time.monotonic()
+        """Begins the proofs that are next in the order, as long as processors are idle and there is memory. One is begun
+        in any case if no other is running."""
+        number, waiting = processors(), self.progress.next()
+        while waiting:
+            used = sum(processes_of(run.width, number) for run in self.runs.values())
+            if self.runs and (used >= most_processes(number) or not has_memory()):
+                return
+            crate = waiting.pop(0)
+            is_first = self.progress.is_first(crate)
+            width = width_for(is_first, number - used, len(waiting), number)
+            place = self.room.place(with_those_below([crate], self.crates))
+            self.runs[crate] = Run(place, width, is_first, self.is_alone(crate))
+            self.progress.begun[crate] = time.monotonic()
 
     def is_alone(self, crate: str) -> bool:
         """Returns whether no other crate can be proved beside this one, because all that remain use it."""

@@ -10,6 +10,7 @@ import signal
 import subprocess
 import sys
 import time
+from enum import Enum
 from pathlib import Path
 from types import FrameType
 
@@ -104,21 +105,28 @@ class Screen:
             print(file=sys.stderr, flush=True)
 
 
+class Width(Enum):
+    """How many processes `rt ci` uses for the proof of a crate that is alone in its repository."""
+
+    ONE = "one"
+    USUAL = "as many as rt chooses, which is half of the processors"
+    ALL = "as many as there are processors"
+
+
 class Run:
     """A run of `rt ci` in a repository."""
 
-    def __init__(self, place: Place, is_first: bool = True, is_look: bool = False, is_alone: bool = False) -> None:
-        """Starts `rt ci` in the repository of `place`. If `is_first` is set, the run has the usual priority, and
-        otherwise a lower one. `is_look` says that the run is stopped as soon as it begins to prove something. If
-        `is_first` is set and `is_look` isn't, the run gets all processors. If `is_alone` is set, no other crate is
-        proved beside, and the run may use twice as much memory."""
-        self.place, self.read = place, 0
-        wide = [sys.executable, "-B", str(WIDE), *[ALONE] * is_alone]
-        words = ["rt"] if is_look or not is_first else wide
+    def __init__(self, place: Place, width: Width = Width.USUAL, is_first: bool = True, is_alone: bool = False) -> None:
+        """Starts `rt ci` in the repository of `place`, with the processes that `width` says. If `is_first` is set, the
+        run has the usual priority, and otherwise a lower one. If `is_alone` is set, no other crate is proved beside it,
+        and a run with the width ALL may use twice as much memory."""
+        self.place, self.width, self.read = place, width, 0
+        words = [sys.executable, "-B", str(WIDE), *[ALONE] * is_alone] if width is Width.ALL else ["rt"]
+        jobs = {"RT_JOBS": "1"} if width is Width.ONE else {}
         with place.log.open("wb") as output:
             self.process = subprocess.Popen(
                 [*words, "ci"], cwd=place.repository, stdin=subprocess.DEVNULL, stdout=output, stderr=subprocess.STDOUT,
-                env={**os.environ, "TMPDIR": str(place.temporary)}, start_new_session=True,
+                env={**os.environ, **jobs, "TMPDIR": str(place.temporary)}, start_new_session=True,
                 preexec_fn=end_with_parent if is_first else begin_at_low_priority,
             )
 

@@ -42,9 +42,10 @@ def keep_library(tree: Tree, crate: str) -> None:
 
 
 def as_proved(tree: Tree, crates: list[str], names: Iterable[str], running: Running) -> Iterator[str]:
-    """Yields each of these crates once the crate and all below it are proved, and the others at the end. `names` are
-    the names of proved crates, as they come, until all proofs have ended. After that, the checks of `running` may use
-    all processors."""
+    """Yields each of these crates once the crate, and all that it uses directly or by others, are proved. Yields the
+    remaining ones at the end. `names` are the names of proved crates, as they come, until all proofs have ended. Keeps
+    the library of each of them, as `keep_library` does. After the last name, the checks of `running` may use all
+    processors."""
     left, proved = [*crates], set[str]()
     for name in map(str.strip, names):
         if name in tree.uses and name not in proved:

@@ -380,8 +380,9 @@ impl LineRest for ReplyRest<'_> {
 
 /// Writes the line of the reply `rest` into the buffer `out`, and from there appends it to the held lines in
 /// `outgoing`, after `front`: the number of the connection and a space. If memory runs out, the line is that of the
-/// refusal `memory`. `out` must have a capacity of at least `REPLY_ROOM`. The function is called for a reply that
-/// isn't short, or for which the held lines must be written first. Returns `WriteFault` if a write fails.
+/// refusal `memory`. `out` must have a capacity of at least `REPLY_ROOM`. The function is called for the reply to a
+/// `look` or `report`, and for any other reply that has no room after the held lines: these are then written to
+/// `writer` first. Returns `WriteFault` if that write fails.
 #[inline(never)]
 fn write_by_buffer<W: Write>(
     alloc: Global,

@@ -1,7 +1,8 @@
 //! A house answers as one script does. Each law is the contract of a function that does nothing.
 //!
-//! A house is one run of a lab that threads share. A seat of it serves one connection after another. A script has
-//! request lines of several connections. A hall answers them in one thread, one after another. A journal is halted if a
+//! A house is one run of a lab that threads share. A seat of it serves one connection after another. A class is a house
+//! with two ports, one of which is the teacher's. A server is a house with one port. A script has request lines of
+//! several connections. A hall answers them in one thread, one after another. A journal is halted if a
 //! line couldn't be written to it; whatever would be granted is then refused as `journal`.
 ghost use Rattle.std.specs.Prelude.{◌≡◌, ◌++◌, ℕ, false, List, [], length, Option};
 ghost use Rattle.std.specs.List.{AllByRecursion};
@@ -35,9 +36,9 @@ ghost use Rattle.mml_laws.specs.ServedAnswers.{answers_in_house};
 /// class, it also did for this line in the script. Nothing is said of a line without a reply, nor of the moment at which
 /// a reply came.
 ///
-/// The first three clauses say this for a house, for a class whose sessions have these answers, and for a server. The
-/// script of a resumed class goes on after the events from before the class. A script that begins without events is a
-/// transcript.
+/// The first three clauses say this for a house, for a class, and for a server. That for a class says it of lists of
+/// lines and replies, one for each seat, which its sessions can have had. The script of a resumed class goes on after
+/// the events from before the class. A script that begins without events is a transcript.
 pub fn a_class_is_one_script<S, K, C, R, W>()
     ensures house { (lab : LabValue) (begun : List Event) (contents : S → Option (List ℕ)) (log : Log S)
         (seats : List (List (List Answered))) (windows : List WindowValue) → IsLab lab →
