@@ -39,7 +39,7 @@ AreNotOutlived lab n (es ∷ ess) = (outlived lab n None es ≡ None) × AreNotO
 abbrev pub counted : ℕ → ℕ
 counted n = min n (2 ^ 64 - 1)
 
--- the findings of several records together: how many sessions ended, how many lines were answered, whether all records
+-- the findings of several records together: how many sessions ended, how many lines were recorded, whether all records
 -- are whole, whether one says that anything may be missing, and the participants for whom recording paused in one
 abbrev pub ComeTo : RosterValue → Findings → List (List Entry) → Type 0
 ComeTo roster f ess =

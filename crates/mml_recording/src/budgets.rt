@@ -70,7 +70,7 @@ impl Budgets {
 }
 
 impl Spending {
-    /// Returns the account of a participant of whom nothing was recorded or refused yet.
+    /// Returns the spending of a participant of whom nothing was recorded or refused yet.
     fn new() -> Spending {
         Spending {
             spent: AtomicU64::new(0),

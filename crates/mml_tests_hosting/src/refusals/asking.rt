@@ -1,5 +1,5 @@
 //! Tests that ask for the acts of a stored run through a window, while one request for memory after another is
-//! refused. An error (`Fail`) means that a house couldn't be opened for lack of memory.
+//! refused. An error (`Fail`) means that a house couldn't be opened because memory ran out.
 //!
 //! An act is a request for an event. The place of an event is its number in the list of events, from 1. The stored run
 //! has ten acts, over the path of three: nodes 1, 2 and 3 in a row. A house is one run of a lab that threads share. A

@@ -1,6 +1,6 @@
 //! Tests of a grant over a sink in memory, while one request for memory after another is refused. If the sink itself
 //! runs out of memory, the journal is halted; otherwise the hall stays as it was. An error (`Fail`) means that a hall
-//! couldn't be made for lack of memory.
+//! couldn't be made because memory ran out.
 //!
 //! A hall is the server of one thread. A sink is the destination of the journal's bytes. The journal is halted if a
 //! line couldn't be written to it. The parameter `is_there` of a function says whether the library that refuses

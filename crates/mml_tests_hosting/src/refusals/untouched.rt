@@ -1,5 +1,5 @@
 //! Tests of calls that request no memory: views, and acts that are denied, exceed the limit of events, or come when
-//! the journal is halted. An error (`Fail`) means that a house couldn't be opened for lack of memory.
+//! the journal is halted. An error (`Fail`) means that a house couldn't be opened because memory ran out.
 //!
 //! An act is a request for an event. A view is what a see, a look or a report shows. The place of an event is its
 //! number in the list of events, from 1. The stored run has ten acts, over the path of three: nodes 1, 2 and 3 in a
