@@ -177,9 +177,10 @@ def of_suite(name: str, how: list[Daemon] | None, seeds: int) -> list[Case]:
 
 
 def of_folder(folder: Path, how: list[Daemon] | None, seeds: int) -> tuple[list[Case], list[str]]:
-    """Returns the cases of the labs in a folder, with the seeds 1 to `seeds` and each daemon in `how`. Also returns an
-    error line for each file that isn't a lab. If `how` is None, the daemons are those in USUAL. Raises `Fault` if the
-    folder can't be read, or if no file in it is a lab."""
+    """Returns the cases of the labs in a folder, with the seeds 1 to `seeds` and each daemon in `how`. If `how` is None,
+    the daemons are those in USUAL. The labs are the files NAME.toml, and other files are passed over. Also returns an
+    error line for each file NAME.toml that isn't a lab. Raises `Fault` if the folder can't be read, or if no file in it
+    is a lab."""
     try:
         files = sorted(each for each in folder.iterdir() if each.suffix == ".toml")
     except OSError as error:

@@ -56,8 +56,9 @@ def picture(lab_file: Path, journal: Path, asked: list[int], theme: str = LIGHT)
 
 
 def play(words: argparse.Namespace) -> int:
-    """Writes the page or the picture, and prints its name and size. Returns the exit status. Raises `Fault` if the
-    arguments don't name one run, if the audit refuses its journal, or if it has no such place."""
+    """Writes the page of a run, or with `--svg` the picture of one or more of its events. Prints the file's name and
+    size. Returns the exit status. Raises `Fault` if the arguments don't name one run, if the audit refuses its journal,
+    or if the journal has no event with a number that `--svg` names."""
     runs = classes.given(words.run)
     if len(runs) != 1:
         raise Fault("play: name the folder of one run, or one lab and one journal")

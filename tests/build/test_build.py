@@ -242,9 +242,10 @@ class Builds(InClone):
         self.assertEqual(self.call("./mml").stdout, "new\n")
 
     def test_if_rt_is_too_old_to_keep_proofs_there_is_one_run(self) -> None:
-        """An older `rt` doesn't print that it keeps nothing, but proves each crate in each run. The build recognises it
+        """An older `rt` proves every crate in every run, and doesn't print that it keeps nothing. The build recognises it
         by its files, which lack the words `is kept`. The only run isn't stopped, and is given all processors."""
         rt = self.bin / "rt"
+        # The older `rt` also lacks the wait by which the stand-in's first run lasts until it is stopped.
         text = rt.read_text(encoding="utf-8").replace("is kept", "proved").replace('"1000" if here.name == "1" else', "")
         rt.write_text(text, encoding="utf-8")
         done = self.call("./mml", "build", RT_JOBS="2")
@@ -253,6 +254,8 @@ class Builds(InClone):
         self.assertTrue(done.stderr.endswith("\nmml: 4 of 4 crates proved\n"), done.stderr)
         self.assertEqual((self.room / "runs").read_text(encoding="utf-8").splitlines(), ["low left right mml_host"])
         number = len(os.sched_getaffinity(0))
+        # The last of the four crates, their number, and the processors that `rt` sees: twice as many as there are, since it
+        # takes half of them (tools/build/wide.py).
         self.assertEqual((self.room / "processors").read_text(encoding="utf-8").split(), ["mml_host", "4", str(2 * number)])
         self.assertEqual(self.call("./mml").stdout, "new\n")
 

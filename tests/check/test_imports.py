@@ -79,7 +79,8 @@ def circle(uses: dict[str, list[str]]) -> list[str]:
 
 
 def faults(known: Sources) -> list[str]:
-    """Returns error texts about imports in the sources `known` that go up, go in a circle, or aren't allowed. `known`
+    """Returns error texts about these imports in the sources `known`: those that go up or in a circle, those from the
+    folders `tests`, `tools` and `bench`, and, outside of the module TOPMOST, those whose name only a run shows. `known`
     has the text of each module."""
     found, uses = [], dict[str, list[str]]()
     for module in known:

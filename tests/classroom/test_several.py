@@ -201,8 +201,9 @@ class OneDesk(Classes):
         program.chmod(0o755)
         return str(program)
 
-    def test_a_resumed_network_that_has_lost_run_json_is_only_offered_to_be_given_up(self) -> None:
-        """Its run can't be resumed again, and `resume` would begin a new one."""
+    def test_the_alarm_for_a_resumed_network_without_run_json_offers_only_end(self) -> None:
+        """The run of this network can't be resumed again. The command `resume` would begin a new run, so the alarm
+        doesn't offer it any longer."""
         desk = GoingClass(self, "run", *self.labs, "--into", self.room / "runs", "--port", str(a_port()), "--close", "by-hand", MML_HOST=self.broken())
         desk.kill("maths-2")
         desk.until("^ALARM maths-2 is down: .*; type `resume 2` to continue it, or `end 2` to give it up$")
@@ -211,7 +212,7 @@ class OneDesk(Classes):
         desk.type("end 2\nend 1\nend 1")
         self.assertEqual(desk.wait_for_end(), 4, desk.lines)
 
-    def test_in_a_resumed_class_too_a_network_that_has_lost_run_json_is_only_offered_to_be_given_up(self) -> None:
+    def test_in_a_resumed_class_too_the_alarm_for_a_network_without_run_json_offers_only_end(self) -> None:
         """The desk and both servers are killed, and neither of the networks can be resumed."""
         desk = self.begin("--close", "by-hand")
         desk.process.kill()

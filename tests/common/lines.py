@@ -52,8 +52,8 @@ def seduced(at: int, place: int, node: int = 1) -> bytes:
 
 
 def closed(at: int, place: int, *moved: int) -> bytes:
-    """Returns the reply to a close by which these nodes moved. `at` is the number of the configuration, and `place`
-    that of the event."""
+    """Returns the reply to a close by which these nodes moved. `at` is the number of the configuration that the close
+    makes, and `place` that of the event."""
     return line_of(at=at, moved=moved, ok="close", place=place)
 
 

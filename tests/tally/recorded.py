@@ -188,8 +188,9 @@ def by_hand(room: Path, document: str) -> int:
 
 
 def forgetful(rng: Random, text: bytes) -> bytes:
-    """Returns the record of a seat in which some denied lines are refused for memory instead. A refusal for memory
-    shows no new events, so these are lines before which no new event was seen."""
+    """Returns the record of a seat in which some denied lines, drawn at random, are refused for memory instead. A reply
+    that refuses for memory shows the connection no new events. So a line is only changed if the connection had seen as
+    many events at this line as at the denied line before."""
     seen = b""
 
     def refused(found: re.Match[bytes]) -> bytes:

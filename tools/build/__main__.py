@@ -1,7 +1,7 @@
 """Proves and builds programs of this clone.
 
     python3 -B -m tools.build PROGRAM..             builds these programs, except those that are built from their present sources
-    python3 -B -m tools.build --built PROGRAM..     prints the paths of these programs if all are built, and builds nothing
+    python3 -B -m tools.build --built PROGRAM..     prints the paths of these programs up to the first that isn't built, and builds nothing
 
 Proofs run on all processors, and proofs that this machine has made before are used again, unless the toolchain is too
 old for that. The status is 0 if all these programs are built, 1 if not, and 127 if the toolchain that builds them is
@@ -111,8 +111,8 @@ def build(programs: list[str]) -> int:
 
 
 def tell_built(programs: list[str]) -> int:
-    """Prints the path of each program that is built from its present sources. Returns the exit status: 1 if one isn't
-    built."""
+    """Prints the paths of these programs in turn, up to the first one that isn't built from its present sources. For that
+    one prints an error line. Returns the exit status: 0 if all are built, and otherwise 1."""
     for program in programs:
         if not is_built(program, sum_of_sources(program)):
             say(f"{program} isn't built from these sources")

@@ -1,6 +1,7 @@
 //! The summary of several records together.
 //!
-//! The record of a seat has the lines of its sessions with their replies. A record is whole if nothing is left out.
+//! The record of a seat has the lines of its sessions with their replies. A record is whole if nothing is left out. It is
+//! cut if it says that lines of anybody may be missing, and it lacks lines of a participant if it says so of that one.
 ghost use Rattle.std.specs.Prelude.{◌≡◌, ◌+◌, ◌&&◌, ◌||◌, ℕ};
 ghost use Rattle.std.specs.FinSet as set;
 ghost use Rattle.mml_lab.specs.declared.who.Who.{Who};

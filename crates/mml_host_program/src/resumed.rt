@@ -180,8 +180,9 @@ fn first_line(alloc: Global, ports: &Ports) -> Result<Vec<u8>, ProgramFault>
     Ok(line)
 }
 
-/// Returns the host's error for `fault`, the reason why a class wasn't resumed, or failed. If the journal couldn't be
-/// cut and memory had run out (`lacked`), returns `Memory`.
+/// Returns the host's error for `fault`, which says why a class couldn't be resumed or why it failed later. `Store` means
+/// that the bytes after the journal's last whole line couldn't be removed. If memory had run out then (`lacked`), the
+/// error is `Memory`.
 fn told_as(fault: ResumeFault, lacked: bool) -> Fault {
     match fault {
         ResumeFault::Store if lacked => Fault::Common(ProgramFault::Memory),

@@ -96,9 +96,10 @@ fn answer_input<R: Input + Print + AllocGlobal>(rt: &R) -> Result<(), Fault> {
     }
 }
 
-/// Answers the script in a file over the lab in a file, and writes a journal if the task names one. If the script can't
-/// be read, the journal's file stays as it was. Returns an error if one of the files is refused, the script ended early,
-/// or the journal was halted.
+/// Answers the script in a file over the lab in a file, prints the replies, and writes a journal if the task names one.
+/// If the script can't be read, the journal's file stays as it was. Returns an error if the lab's file or the script's
+/// can't be read, the lab is refused, or the journal's file can't be made. Also returns one if a line of the script is
+/// bad, a reply can't be written, memory runs out, or the journal was halted.
 fn script_file<R: Files<File = File> + Print + AllocGlobal>(
     rt: &R,
     task: ScriptTask<'_>,

@@ -37,10 +37,10 @@ pub fn replies_of_a_hall_name_their_events()
         IsPrefix st.events end.events }
 {}
 
-/// In a session, a reply that names place p replies to a command of the participant who was known. The command was
-/// granted after events 1 to p - 1 of the list, and event p is what was granted. The list can be any legal list of the
-/// lab, within its limit, that begins with the events that the window has seen at the end. The list of the house is
-/// such a list.
+/// Take any legal list of events of the lab, within the lab's limit of events, that begins with the events that the
+/// window has seen when the session ends. The list of the house is such a list. In the session, a reply that names
+/// place p replies to a command of the participant who was known. The command was granted after events 1 to p - 1 of
+/// this list, and event p is what was granted.
 pub fn replies_of_a_session_name_their_events()
     ensures talk { (lab : LabValue) (st : session.Standing) (t : Talk lab st) (l : List Event) →
         IsLab lab → is_legal_in lab l ≡ true → length l ≤ lab.events →
