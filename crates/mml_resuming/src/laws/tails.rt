@@ -9,6 +9,7 @@ ghost use Rattle.mml_resuming.specs.Resuming.{counted_of, whole_of};
 /// longest line of an event with its newline. So they may be the beginning of such a line, but not a whole one. If they
 /// are more, nothing is dropped, and all bytes are audited. `whole_of` has the bytes up to the last newline, and
 /// `counted_of` those that aren't dropped.
+#[tactic(auto, using(crate::proofs::TailsLemmas::tail_is_short))]
 pub fn a_tail_is_shorter_than_a_line()
     ensures { (bytes : List ℕ) → counted_of bytes ≢ bytes →
         length bytes < length (whole_of bytes) + 102 }
