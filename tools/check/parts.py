@@ -54,8 +54,8 @@ LIKED = (*LANGUAGES, "jupyter-nbconvert")
 PROVED = "[ps]*/**/*.*t"  # a crate's src/, specs/ and proofs/
 EDITS = "wrong/*.edit"
 STANDS = r"^rt: (\w+) (?:proved$|is kept: )"  # the line for a crate whose library has been written
-PROOFS = Part("proofs", ("rt", "ci"), 134, 42, ALL, ("rt",), shows=r"^rt: ", hands_on=STANDS)
-WRONG = Part("wrong", module("wrong", of="tools"), 130, 10, ALL, ("rt",))
+PROOFS = Part("proofs", ("rt", "ci"), 200, 50, ALL, ("rt",), shows=r"^rt: ", hands_on=STANDS)
+WRONG = Part("wrong", module("wrong", of="tools"), 158, 10, ALL, ("rt",))
 LAST_CRATES = 5  # minutes of the wrong bodies of the crates that are proved last
 
 
