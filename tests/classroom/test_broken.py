@@ -71,7 +71,8 @@ class Broken(Cycle):
                 self.assertTrue(any(line.startswith("the server") for line in going.lines))
 
     def test_a_run_whose_server_is_killed_while_bots_play_keeps_at_least_the_printed_events(self) -> None:
-        """Each printed configuration has at least one event."""
+        """Each printed configuration has at least one event. A run of the cycle has at least six steps, so three
+        configurations are printed however many moves a step has."""
         going = Going(self, CYCLE, "--close", "every:0.05")
         for name in KEYS:
             self.bot(going, name)

@@ -424,6 +424,7 @@ class Wire(InRoom):
             hands.show(host.port, print)
             rows = self.enter(hands.address, "gus", "a")
             token = rows.next()["token"]
+            self.assertEqual(rows.next()["at"], 0)  # Only then the page has looked.
             wrong: tuple[tuple[dict[str, object], str], ...] = (
                 ({}, 'the key "node" is missing'), ({"node": 4, "at": 0, "rule": "dance"}, 'rule is "dance", not one of'),
                 ({"node": 4, "at": -1, "rule": "update"}, "at is a number out of range, not a whole number"),

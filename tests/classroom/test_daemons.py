@@ -12,6 +12,7 @@ from pathlib import Path
 
 from classroom.client import Client, Refused, Report, See
 from classroom.core import lab as labs
+from classroom.core.journal import events
 from classroom.core.program import Fault
 from classroom.pages.frames import frames_of
 from classroom.run import announcing, desk as desks
@@ -225,11 +226,43 @@ class Desk(Cycle):
             privileged, chosen = set(frame.state.privileged), set(frame.state.chosen)
         return found
 
-    def test_under_the_central_daemon_over_a_third_of_the_steps_have_a_single_move(self) -> None:
-        """A step has more moves if one is granted between the desk's last check and its close. This may happen in up to
-        two of three steps."""
-        steps = self.steps(self.run_with_recoveries("central", "break"))
-        self.assertLess(len(steps), 3 * sum(len(moved) == 1 for _, moved in steps))
+    def test_under_the_central_daemon_a_step_has_only_the_move_that_was_granted_first(self) -> None:
+        """In each step all moves are granted while no step is closed, and then the central daemon closes it. So the
+        recovery after `break` has as many steps as moves."""
+        going = Going(self, CYCLE, "--daemon", "by-hand", *SERVE)
+        students = {name: self.enterContext(Client(going.port, name, key)) for name, key in KEYS.items()}
+        going.type("break")
+        going.until(r"^configuration 7: 7 faults at nodes ")
+        chance = random.Random(1)
+        while granted := self.grant_all(students, chance):
+            going.type("daemon central")
+            going.until("^from now on steps are closed by the daemon central$")
+            # The lines before it, if there are any, say which granted moves are dropped.
+            line = going.until(r"^configuration \d+: (?!dropped )")
+            self.assertRegex(line, rf"^configuration \d+: node {granted[0]} \(\w+\): \w+; ")
+            going.type("daemon by-hand")
+            going.until("^from now on steps are closed by the daemon by-hand$")
+        self.assertTrue(any(re.search(r"^stable again after (\d+) moves, \1 steps and ", line) for line in going.lines), going.lines)
+        self.assertEqual(sum(line.startswith("stable ") for line in going.lines), 1)
+        self.assertEqual(going.end(), 0, going.lines)
+        self.check_complete(going.folder)
+
+    def grant_all(self, students: dict[str, Client], chance: random.Random) -> list[int]:
+        """Asks for the move of each node with an enabled rule, in a random order. `students` has the connections by
+        their names. Returns the nodes in the order of their grants."""
+        nodes = [(name, node) for name in students for node in labs.read(CYCLE).nodes_of(name)]
+        looks = [(name, students[name].look(node)) for name, node in chance.sample(nodes, len(nodes))]
+        return [students[name].move(look).node for name, look in looks if look.rule is not None]
+
+    def test_under_the_central_daemon_the_move_that_was_granted_first_in_a_step_is_never_released(self) -> None:
+        """Here bots ask while steps are closed. A step has further moves if these are granted between the desk's last
+        check and its close."""
+        first: int | None = None
+        for event in events((self.run_with_recoveries("central", "break") / "journal").read_text(encoding="ascii")):
+            if event.kind == "release":
+                self.assertNotEqual(event.nodes[0], first)
+            else:  # A close or a fault ends the step.
+                first = (first or event.nodes[0]) if event.kind == "grant" else None
 
     def test_under_the_synchronous_daemon_all_privileged_nodes_move_in_each_step(self) -> None:
         self.assertTrue(all(moved == privileged for privileged, moved in self.steps(self.run_with_recoveries("synchronous", "break"))))

@@ -9,7 +9,6 @@ import shutil
 import subprocess
 import sys
 import threading
-import time
 import unittest
 import unittest.mock
 from pathlib import Path
@@ -18,9 +17,8 @@ from classroom.bots import grade, suites
 from classroom.bots.bots import Bot
 from classroom.core.program import TOP
 from tests.classroom.help import CLASS, EXAMPLES, LIMIT, InRoom, call_class
+from tests.classroom.leaving import Leaving
 
-FAULTY = TOP / "tests/classroom/bots/faulty.py"
-SLEEP = b"98765.25"  # an argument of the processes that bots of `faulty.py` leave running
 # A command of a shell that mounts a disk at $1, fills it, and then runs the other words.
 FULL = 'mount -t tmpfs -o size=64k none "$1" && head -c 1000000 /dev/zero > "$1/filler" 2> /dev/null; shift; exec "$@"'
 
@@ -109,7 +107,7 @@ class Disks(InRoom):
         self.assertFalse(any(result.passed for result in found))
 
 
-class AtHome(InRoom):
+class AtHome(Leaving):
     """Programs that misbehave while a student practises."""
 
     def practises(self, bot: str, seconds: str = "3") -> str:
@@ -123,20 +121,16 @@ class AtHome(InRoom):
 
     def test_practise_says_that_a_bot_sent_bytes_or_that_nothing_has_happened(self) -> None:
         self.assertIn("\nyou: a line is refused as malformed: the line isn't UTF-8 at byte 1; the line is \\x80\\x81",
-                      self.practises(f"python3 {FAULTY} binary", "15"))
+                      self.practises(f"python3 {self.faulty} binary", "15"))
         for fault in ("pretends", "hangs"):
-            self.assertRegex(self.practises(f"python3 {FAULTY} {fault}"),
+            self.assertRegex(self.practises(f"python3 {self.faulty} {fault}"),
                              r"(?m)^the run is given up, since nothing has happened for 3 seconds; it waits for \w+ at node 1 \(")
 
     def test_when_practise_has_ended_no_process_of_the_bot_is_left(self) -> None:
-        """The bot starts a program in a session of its own, and ends. Other tests may run such bots at the same time,
-        so the test waits until none of these programs is left."""
-        told = self.practises(f"python3 {FAULTY} forks", str(LIMIT))
+        """The bot starts a program in a session of its own, and ends."""
+        told = self.practises(f"python3 {self.faulty} forks", str(LIMIT))
         self.assertIn("\nyou: the bot ended by itself, with status 0\n", told)
-        end = time.monotonic() + LIMIT
-        while any(SLEEP in cmdline(each) for each in Path("/proc").iterdir()):
-            self.assertLess(time.monotonic(), end)
-            time.sleep(0.05)
+        self.check_nothing_left()
 
     def test_practise_needs_no_browser(self) -> None:
         """In this environment no browser is found, and the page is written into its file all the same."""
@@ -147,15 +141,6 @@ class AtHome(InRoom):
         self.assertEqual((done.returncode, done.stderr.count("rror")), (0, 0), done.stdout + done.stderr)
         page = next(line for line in done.stdout.splitlines() if line.startswith("page: ")).removeprefix("page: ").partition(";")[0]
         self.assertIn("</html>", Path(page).read_text(encoding="utf-8"))
-
-
-def cmdline(process: Path) -> list[bytes]:
-    """Returns the words of a process's command line. `process` is its folder in /proc. Returns none if it has ended, or
-    if this isn't the folder of a process."""
-    try:
-        return (process / "cmdline").read_bytes().split(b"\0") if process.name.isdecimal() else []
-    except OSError:
-        return []
 
 
 class Folders(InRoom):

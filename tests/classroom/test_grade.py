@@ -28,11 +28,12 @@ from classroom.core.lab import read
 from classroom.core.processes import parents
 from classroom.core.program import TOP, call
 from classroom.run.daemons import Daemon
-from tests.classroom.help import CYCLE, EXAMPLES, LIMIT, InRoom, call_class
+from tests.classroom.help import CYCLE, EXAMPLES, LIMIT, InRoom, call_class, wait_until
+from tests.classroom.leaving import Leaving, words_of
 
-FAULTY = TOP / "tests/classroom/bots/faulty.py"
-SLEEP = b"98765.25"  # an argument of the processes that bots of `faulty.py` leave running
-SECONDS = 20  # seconds that a case may take; a slow machine starts a bot in a part of them
+# The limit of each wait for a bot that is found by what it doesn't do, in seconds. A slow machine starts a bot in a
+# part of this time.
+SECONDS = 40
 # Each fault with the plan of the case that finds it, and a pattern of the reason that the result has.
 OWN = {
     "never-updates": ("path-4", rf"didn't become stable within {SECONDS} seconds: it waits for update at node \d \(bot\)"),
@@ -50,7 +51,7 @@ OWN = {
     "forks": ("path-4", "the bot ended by itself, with status 0"),
     "bombs": ("path-4", "the bot was ended: it had more than 64 processes"),
     "eats-memory": ("path-4", "the bot was ended: it used more than 200 megabytes of memory"),
-    "computes": ("path-4", rf"the bot used more than {SECONDS} seconds of processor time, the limit of --timeout, and was ended"),
+    "computes": ("path-4", rf"the bot used more than {LIMIT} seconds of processor time, the limit of --timeout, and was ended"),
     "pretends": ("path-4", rf"no hello of the bot was granted within {SECONDS} seconds; the bot never connected to port \d+$"),
 }
 PLANS = {plan.name: plan for plan in suites.SMALL}
@@ -60,11 +61,6 @@ class Ended(Exception):
     """A test's stand-in for the end of its process."""
 
 
-def faulty(fault: str) -> Bot:
-    """Returns the bot of `faulty.py` with this fault. The fault `right` is none: the bot is correct."""
-    return Bot.of(f"{sys.executable} {FAULTY} {fault}")
-
-
 def try_case(bot: Bot, plan: str, limits: Limits, room: Path) -> Result:
     """Tries a bot in the case of a plan of the suite `small`, with the seed 1 and the plan's daemon. `limits` are those
     of the time and memory of the bot. Writes the record of the case below the folder `room`. Returns the result."""
@@ -72,18 +68,6 @@ def try_case(bot: Bot, plan: str, limits: Limits, room: Path) -> Result:
     with tempfile.TemporaryDirectory() as own:
         found = try_bot(bot, suites.planned(it, 1, it.daemon), limits, Path(own), room / bot.name / plan, threading.Event())
     assert found is not None
-    return found
-
-
-def left_behind() -> list[str]:
-    """Returns the numbers of the running processes that bots of `faulty.py` have started, as their arguments show."""
-    found = []
-    for each in Path("/proc").iterdir():
-        try:
-            if each.name.isdecimal() and SLEEP in (each / "cmdline").read_bytes().split(b"\0"):
-                found.append(each.name)
-        except OSError:
-            continue
     return found
 
 
@@ -100,42 +84,30 @@ def end(process: int) -> None:
         pass
 
 
-def command_of(process: int) -> list[bytes]:
-    """Returns the command line of a process, or nothing if it has ended."""
-    try:
-        return Path(f"/proc/{process}/cmdline").read_bytes().split(b"\0")
-    except OSError:
-        return []
-
-
-def check_nothing_left(test: unittest.TestCase) -> None:
-    """Waits until no process is left that a bot has started. Fails after LIMIT seconds. It waits because other tests
-    may run such bots at the same time."""
-    end = time.monotonic() + LIMIT
-    while left := left_behind():
-        test.assertLess(time.monotonic(), end, left)
-        time.sleep(0.05)
-
-
-class Faults(InRoom):
+class Faults(Leaving):
     """Bots with known faults."""
 
+    def bot(self, fault: str) -> Bot:
+        """Returns the bot of `faulty.py` with this fault. The fault `right` is none: the bot is correct."""
+        return Bot.of(f"{sys.executable} {self.faulty} {fault}")
+
     def test_each_bot_fails_the_case_that_finds_its_fault_for_the_right_reason(self) -> None:
+        """A bot whose fault is found by what it does has much time for that."""
         # A bot is watched for longer while its class is stable, since a slow machine may halt it for a while.
         with unittest.mock.patch.object(troubles, "QUIET", 3.0), concurrent.futures.ThreadPoolExecutor(len(OWN)) as pool:
-            going = {fault: pool.submit(try_case, faulty(fault), plan, Limits(SECONDS, 200), self.room)
-                     for fault, (plan, _) in OWN.items()}
+            going = {fault: pool.submit(try_case, self.bot(fault), plan, Limits(SECONDS if f"{SECONDS} seconds" in why else LIMIT, 200), self.room)
+                     for fault, (plan, why) in OWN.items()}
         for fault, (_, why) in OWN.items():
             result = going[fault].result()
             self.assertFalse(result.passed, fault)
             self.assertRegex(result.why, why, fault)
-        check_nothing_left(self)
+        self.check_nothing_left()
 
     def test_a_correct_bot_passes_the_same_cases(self) -> None:
         """The record of each case has a journal that passes the audit, a page, and the lines and replies."""
         plans = sorted({plan for plan, _ in OWN.values()})
         with concurrent.futures.ThreadPoolExecutor(len(plans)) as pool:
-            for result in pool.map(lambda plan: try_case(faulty("right"), plan, Limits(60), self.room), plans):
+            for result in pool.map(lambda plan: try_case(self.bot("right"), plan, Limits(60), self.room), plans):
                 self.assertTrue(result.passed, result)
                 self.assertEqual(result.why, "")
                 self.assertLessEqual(result.denied.keys(), {"stale", "chosen", "memory"})
@@ -278,7 +250,7 @@ class Kept(InRoom):
         self.assertIn("none/cases.json: No such file or directory; nothing was written to this file", (self.room / "lines").read_text(encoding="utf-8"))
 
 
-class Calls(InRoom):
+class Calls(Leaving):
     """The subcommand, called with bots."""
 
     @unittest.skipUnless(shutil.which("java"), "no java: Bot.java wasn't graded")
@@ -307,7 +279,7 @@ class Calls(InRoom):
         shutil.copy(EXAMPLES / "shared.toml", labs)
         (labs / "none.toml").write_text("events = 3\n")
         table = self.room / "cases.json"
-        done = call_class("grade", "no-such-bot", f"python3 {FAULTY} right", "--labs", labs, "--daemon", "synchronous", "--timeout", "60",
+        done = call_class("grade", "no-such-bot", f"python3 {self.faulty} right", "--labs", labs, "--daemon", "synchronous", "--timeout", "60",
                           "--into", self.room / "grades", "--json", table)
         self.assertEqual(done.returncode, 5, done.stdout + done.stderr)
         self.assertRegex(done.stdout, r"(?m)^class: .*none.toml: the lab is refused \(lab: .* is missing\)")
@@ -334,7 +306,7 @@ class Calls(InRoom):
         """Of two bots, one is killed in all of its 12 cases, and the other hangs. Then the grade is interrupted. The
         table has the first bot's cases."""
         table = self.room / "cases.json"
-        bots = [f"python3 {FAULTY} {fault}" for fault in ("hangs", "bombs")]
+        bots = [f"python3 {self.faulty} {fault}" for fault in ("hangs", "bombs")]
         going = subprocess.Popen(
             [sys.executable, TOP / "class", "grade", *bots, "--into", self.room / "grades", "--json", table, "--timeout", str(LIMIT),
              "--at-once", "24"], stdout=subprocess.PIPE, stderr=subprocess.STDOUT, text=True)
@@ -350,7 +322,7 @@ class Calls(InRoom):
         self.assertEqual(going.wait(LIMIT), 4, lines)
         self.assertIn("interrupted: only 12 of 24 cases were tried to their end\n", lines)
         self.assertEqual(len(json.loads(table.read_text(encoding="utf-8"))), 12)
-        check_nothing_left(self)
+        self.check_nothing_left()
 
     def test_bots_that_fight_their_keeper_take_no_result_away(self) -> None:
         """In namespaces these bots can't reach their keeper. Without namespaces they stop or kill it, and fail because
@@ -369,10 +341,10 @@ class Calls(InRoom):
         Returns the reasons for which each bot failed."""
         table = self.room / "cases.json"
         faults = ("swaps-output", "halts", "kills", "right")
-        done = call_class("grade", *(f"python3 {FAULTY} {fault}" for fault in faults), "--labs", labs, "--timeout", "60", "--into", self.room / "grades",
-                          "--json", table, *more)
+        done = call_class("grade", *(f"python3 {self.faulty} {fault}" for fault in faults), "--labs", labs, "--timeout", "60",
+                          "--into", self.room / "grades", "--json", table, *more)
         self.assertEqual(done.returncode, 5, done.stdout + done.stderr)
-        check_nothing_left(self)
+        self.check_nothing_left()
         cases = json.loads(table.read_text(encoding="utf-8"))
         self.assertEqual([each["passed"] for each in cases], [False] * 9 + [True] * 3)
         # Each bot has three cases, one after another.
@@ -387,7 +359,7 @@ class Calls(InRoom):
         table = self.room / "cases.json"
         rooms = self.room / "rooms"
         rooms.mkdir()
-        bots = [f"python3 {FAULTY} {fault}" for fault in ("forks", "leaves")]
+        bots = [f"python3 {self.faulty} {fault}" for fault in ("forks", "leaves")]
         going = subprocess.Popen(
             [sys.executable, TOP / "class", "grade", *bots, "--suite", "small", "--daemon", "by-hand", "--into", self.room / "grades", "--json", table,
              "--timeout", str(LIMIT), "--at-once", "24"], stdout=subprocess.PIPE, stderr=subprocess.STDOUT, text=True,
@@ -400,7 +372,7 @@ class Calls(InRoom):
             if failed == 12:
                 break
         late = time.monotonic() + LIMIT
-        while len(answering := [child for child in children(going.pid) if b"answer" in command_of(child)]) != 12:
+        while len(answering := [child for child in children(going.pid) if b"answer" in words_of(Path(f"/proc/{child}"))]) != 12:
             self.assertLess(time.monotonic(), late, answering)
             time.sleep(0.05)
         for child in answering:
@@ -417,16 +389,16 @@ class Calls(InRoom):
         self.assertEqual([each["bot"] for each in json.loads(table.read_text(encoding="utf-8"))], ["python3 faulty.py forks"] * 12)
         self.assertEqual([child for child in answering if Path(f"/proc/{child}").exists()], [])
         self.assertEqual(list(rooms.iterdir()), [])
-        check_nothing_left(self)
+        self.check_nothing_left()
 
     def test_a_grade_that_is_killed_leaves_nothing_running(self) -> None:
-        going = subprocess.Popen([sys.executable, TOP / "class", "grade", f"python3 {FAULTY} leaves", "--into", self.room / "grades"],
+        going = subprocess.Popen([sys.executable, TOP / "class", "grade", f"python3 {self.faulty} leaves", "--into", self.room / "grades"],
                                  stdout=subprocess.DEVNULL)
-        while len(left_behind()) < 3:  # until the bot of three cases has left a process running
-            time.sleep(0.05)
+        self.addCleanup(going.kill)
+        wait_until(lambda: len(self.left_behind()) >= 3)  # until the bot of three cases has left a process running
         going.kill()
         going.wait(LIMIT)
-        check_nothing_left(self)
+        self.check_nothing_left()
 
 
 if __name__ == "__main__":

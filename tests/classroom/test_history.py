@@ -100,7 +100,7 @@ class Disputed(Cycle):
             self.assertEqual(wrong.ask(hello("gus", "heron-13")), UNKNOWN)
         going.until("^1 hello with a wrong key for gus$")
         with Raw(going.port, "gus") as gus, Raw(going.port, "jonas") as jonas:
-            going.until("^connected: gus$")
+            going.until_each("^connected: gus$", "^connected: jonas$")
             gus.ask(MOVE % 0)
             jonas.ask(b'{"do":"move","node":7,"rule":"abandonment","at":0}\n')
             going.type("close")
@@ -115,7 +115,7 @@ class Disputed(Cycle):
                 going.until(f"^since the last step: {stale} requests of gus denied as `stale`$")
             self.assertEqual(gus.ask(MOVE % 1), GUARD)
             self.assertEqual(gus.ask(EVIL), '{"refuse":"malformed"}')
-        going.until("^disconnected: gus$")
+        going.until_each("^disconnected: gus$", "^disconnected: jonas$")  # From then on the record doesn't grow.
         return going
 
     def end(self, going: Going) -> Path:

@@ -152,10 +152,11 @@ class Standing(InRoom):
         going = Going(self, self.made, "--daemon", "synchronous", "--stand-in", "0.5s")
         for name in ("ana-lima", "eva-sol"):
             self.bot(going, name)
-        going.until("^stable (again )?after ")
+        going.until("^stable after ")
         going.type("who")
         going.until("^the house plays at each node for which the class has waited 0.5 seconds$")
         going.type("shake all 7")
+        going.until("^the registers of 8 nodes were set$")
         going.until("^stable again after ")
         going.type("end")
         self.assertEqual(going.wait_for_end(), 0, going.lines)
@@ -239,7 +240,9 @@ class Standing(InRoom):
         acts = going.until("^page on which you can act http").removeprefix("page on which you can act ")
         self.greet(going)
         going.type("play gus-roy\nshake all 2")
-        going.until("^stable (again )?after ")
+        # The class may have become stable before, too. Only after the new registers it is stable `again`.
+        going.until("^the registers of 8 nodes were set$")
+        going.until("^stable again after ")
         for each in Path("/proc").iterdir():  # A process may end meanwhile, or its files can't be read.
             for name in ("cmdline", "environ"):
                 try:

@@ -165,10 +165,11 @@ class Practise(InRoom):
         self.assertEqual(lines[1:-1], [f"you: this has happened {count} times so far: move is denied as stale, clause 2" for count in counts])
 
     def test_a_bot_that_never_connects_is_named_as_the_reason(self) -> None:
-        """The bot only prints what looks like a reply, so its output isn't taken for a connection."""
-        done = self.practises(f"python3 {FAULTY} pretends", "--timeout", "1")
+        """The bot only prints what looks like a reply, so its output isn't taken for a connection. The other nodes move
+        first. Each step is closed when nothing has happened for half a second."""
+        done = self.practises(f"python3 {FAULTY} pretends", "--timeout", "10")
         self.assertEqual(done.returncode, 5, done.stdout + done.stderr)
-        self.assertRegex(done.stdout, r"(?m)^the run is given up, since nothing has happened for 1 seconds; it waits for \w+ at node \d \(you\).*; "
+        self.assertRegex(done.stdout, r"(?m)^the run is given up, since nothing has happened for 10 seconds; it waits for \w+ at node \d \(you\).*; "
                                       r"you: the bot never connected to port \d+; "
                                       r"a second program with the same rules, which doesn't decide the result, explains: "
                                       r'a correct bot would send {"at":1?\d,"do":"move",.*}$')

@@ -116,11 +116,13 @@ class Resume(Cycle):
 
     def test_a_class_whose_server_is_killed_while_bots_ask_continues_to_its_end(self) -> None:
         """Until it is resumed, another run of the lab is refused. The resumed class has the same ports, and all
-        complete lines of the journal. The marks are those that the test counts."""
+        complete lines of the journal. The marks are those that the test counts. The bot of gus comes only after the
+        kill. Without gus the class makes at least six steps, and then waits for node 1, so it can't end before the
+        kill."""
         for what in KINDS:
             with self.subTest(what=what):
                 going = Going(self, CYCLE, "--close", "every:0.2", "--beside", "--until", "stable")
-                for name in KEYS:  # A bot that has greeted greets again after the class continues.
+                for name in ("hana", "ines", "jonas"):  # A bot that has greeted greets again after the class continues.
                     self.bot(going, name)
                 for _ in range(random.randint(1, 4)):
                     going.until("^configuration ")
@@ -133,7 +135,7 @@ class Resume(Cycle):
                 again = Going(self, None, "run", "--resume", going.folder)
                 self.assertEqual((again.port, again.folder), (going.port, going.folder))
                 self.assertTrue(any(re.match(r"the class continues at configuration \d+; events: \d+ of 1000$", line) for line in again.lines), again.lines)
-                for name in KEYS:  # A student whose bot hadn't greeted starts another bot.
+                for name in KEYS:  # Gus starts a bot, and a student whose bot hadn't greeted starts another one.
                     self.bot(again, name)
                 self.assertEqual(again.wait_for_end(), 0, again.lines)
                 self.assertIn("the network is stable, so the run is ended", again.lines)

@@ -12,6 +12,7 @@ hour, the number of a host's threads and descriptors and its memory. At the end 
 from __future__ import annotations
 
 import contextlib
+import itertools
 import os
 import re
 import subprocess
@@ -91,7 +92,7 @@ class Class:
         threading.Thread(target=self.read, daemon=True).start()
         self.until(lambda: any(line.startswith("commands: ") for line in self.lines))
         text = "\n".join(self.lines)
-        self.port, self.desk = (int(re.findall(rf"(?m)^{word} (\d+)(?:,|$)", text)[0]) for word in ("port", "desk"))
+        self.port, self.desk = (int(re.findall(rf"(?m)^{what} (\d+), ", text)[0]) for what in ("port", "desk at port"))
 
     def read(self) -> None:
         """Reads the lines that the class prints, until its end."""
@@ -105,6 +106,11 @@ class Class:
             if time.monotonic() > end or self.process.poll() is not None:
                 fail(f"soak: the class: {self.lines[-5:]}")
             time.sleep(0.1)
+
+    def is_stable_after(self, text: str) -> bool:
+        """Returns whether the class has printed a line about a stable configuration after a line with this text."""
+        later = itertools.dropwhile(lambda line: text not in line, self.lines)
+        return any("; stable; " in line for line in later)
 
     def type(self, line: str) -> None:
         """Types a line at the class's desk."""
@@ -171,9 +177,10 @@ class Class:
             while (left := end - time.monotonic()) > 0:
                 self.type("shake 5")
                 time.sleep(min(SHAKE, left))
-            before = len(self.lines)
-            self.type("shake 1")
-            self.until(lambda: any("; stable, " in line for line in self.lines[before:]))
+            # After this fault the class isn't stable, so the line that is awaited comes later. The faults of a
+            # `shake` have one line together, in which their registers aren't printed.
+            self.type(f"fault {STUDENTS} null true")
+            self.until(lambda: self.is_stable_after(f"fault at node {STUDENTS}: p null, m true; "))
             self.is_ending = True
             self.type("end\nend")  # The class asks for a second `end` if it isn't stable any more.
             statuses = [bot.wait(LIMIT) for bot in bots]
