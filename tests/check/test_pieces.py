@@ -124,6 +124,11 @@ class Sharing(unittest.TestCase):
         for it in QUICK:
             self.assertTrue(it.work > 0 and it.least > 0 and it.width > 0)
 
+    def test_a_part_needs_a_browser_also_if_a_test_module_that_it_imports_does(self) -> None:
+        """`test_folders` doesn't import the module `browser` itself, but `test_history`, which does."""
+        needs = {it.name: it.needs for it in QUICK}
+        self.assertEqual([name for name in ("class-desk", "class-folders", "class-history") if "browser" in needs[name]], ["class-folders", "class-history"])
+
 
 if __name__ == "__main__":
     unittest.main()

@@ -59,12 +59,21 @@ WRONG = Part("wrong", module("wrong", of="tools"), 158, 10, ALL, ("rt",))
 LAST_CRATES = 5  # minutes of the wrong bodies of the crates that are proved last
 
 
+def with_imported(module: Path) -> str:
+    """Returns the text of a test module, and after it the texts of the test modules of its folder that it imports."""
+    text = module.read_text(encoding="utf-8")
+    names = re.findall(r"(?m)^from tests\.classroom\.(test_\w+) import", text)
+    return text + "".join((module.parent / f"{it}.py").read_text(encoding="utf-8") for it in names)
+
+
 def classroom() -> Iterator[Part]:
     """Yields a part for each module of tests/classroom. Most of them start servers of their own, and some a browser.
-    What a part needs is found out from the text of its module."""
+    What a part needs is found out from the text of its module. A browser is also needed if only an imported test module
+    imports it."""
     for it in sorted((TOP / "tests/classroom").glob("test_*.py")):
         text = it.read_text(encoding="utf-8")
-        needs = (*BUILT, "python3", *["browser"] * ("tests.classroom.browser" in text), *["pictures"] * ('"rsvg-convert"' in text))
+        has_browser = "tests.classroom.browser" in with_imported(it)
+        needs = (*BUILT, "python3", *["browser"] * has_browser, *["pictures"] * ('"rsvg-convert"' in text))
         likes = tuple(it for it in LIKED if f'"{it}"' in text)
         name = it.stem.replace("test_", "class-")
         yield Part(name, cases(f"classroom.{it.stem}", python="/usr/bin/python3"), 0.2, 0.4, 0.5, needs, likes)
