@@ -32,10 +32,10 @@ class Estimates(unittest.TestCase):
         one."""
         self.assertEqual(chains(USES, SECONDS), {"a": 65.0, "b": 125.0, "c": 55.0, "d": 25.0, "e": 5.0})
         progress = Progress(USES, SECONDS, 1)
-        for crate, others in (("b", ["a"]), ("a", ["d"]), ("c", ["d"]), ("d", []), ("e", [])):
+        for crate, others in (("b", "a"), ("a", "d"), ("c", "d"), ("d", ""), ("e", "")):
             self.assertEqual((progress.next(), progress.is_first(crate)), ([crate, *others], True))
             progress.begun[crate] = 0.0
-            self.assertEqual(progress.next(), others)
+            self.assertEqual(progress.next(), [*others])
             progress.note(crate, False, 0.0)
         progress = Progress(USES, SECONDS, 2)
         self.assertEqual((progress.is_first("b"), progress.is_first("a")), (True, False))
