@@ -286,9 +286,10 @@ def play(it: ClassWithPrograms, bots: list[Bot], words: argparse.Namespace, fold
 
 @contextlib.contextmanager
 def served(practice: Practice, lab: labs.Lab, name: str, is_asked: bool) -> Iterator[None]:
-    """Serves the page on which the student `name` of a lab plays by hand while the class of `practice` runs. Does
-    nothing if `is_asked` isn't set. Prints the page's address. The student's key is after the `#` there, and browsers
-    don't send that part. Raises `Fault` if no port is free."""
+    """Serves the page on which the student `name` of a lab plays by hand while the class of `practice` runs. Then ends
+    the class, which is the reason that an open page shows. Does nothing if `is_asked` isn't set. Prints the page's
+    address. The student's key is after the `#` there, and browsers don't send that part. Raises `Fault` if no port is
+    free."""
     if not is_asked:
         yield
         return
@@ -297,6 +298,7 @@ def served(practice: Practice, lab: labs.Lab, name: str, is_asked: bool) -> Iter
     practice.tell(f"page to play on: {hands.address}#name={name}&key={lab.students[name]}")
     try:
         yield
+        practice.playing.relay.end_class()  # An open page asks the class once more, but from now on nobody would answer.
     finally:
         hands.stop()
 

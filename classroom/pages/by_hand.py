@@ -78,7 +78,9 @@ class PlayServer(Web):
                          if isinstance(token, str) and hmac.compare_digest(known.encode(), token.encode(errors="replace"))), None)
 
     def stop(self) -> None:
-        """Makes all pages give up their seats, waits for that at most LAST_WORD seconds, and closes the port."""
+        """Makes all pages give up their seats, waits for that at most LAST_WORD seconds, and closes the port. Each page
+        first asks the class's server once more. So that server has to be answering, or to have closed the page's
+        connection."""
         with self.turn:
             self.leaves = True
             self.turn.wait_for(lambda: not self.seats, LAST_WORD)

@@ -89,8 +89,8 @@ class Practise(InRoom):
         self.assertRegex(done.stdout, r"\nyou: \d+ granted moves \(update, marriage, seduction, abandonment\), \d+ denials?( \(.*\))?\n$")
 
     def test_a_class_can_be_played_to_its_end_by_requests_to_the_page_s_server(self) -> None:
-        """The test sends the requests that the page would send, and asks for each enabled move. `--page` is refused
-        together with a bot."""
+        """The test sends the requests that the page would send, and asks for each enabled move. The last row has the
+        reason for the end. `--page` is refused together with a bot."""
         self.assertIn("--page is for playing by hand", self.practises(EXAMPLES / "bot.py", "--page").stderr)
         going = subprocess.Popen(
             [sys.executable, TOP / "class", "practise", "--page", "--family", "path", "--nodes", "2", "--node", "1,2", "--start", "clean",
@@ -103,12 +103,15 @@ class Practise(InRoom):
         name, key = re.findall("=([^&]+)", address)  # The address ends with `#name=NAME&key=KEY`.
         rows = Rows(address.partition("#")[0], name, key)
         self.addCleanup(rows.connection.close)
-        token, answers = rows.next()["token"], []
+        token, asked, answers = rows.next()["token"], set[tuple[int, int]](), []
         while "ended" not in (row := rows.next()):
             for look in row.get("nodes", []):
-                if look["rule"] and not look["chosen"]:
+                # Asks only once. A row may be older than the last answer, and the class may have ended since then.
+                if look["rule"] and not look["chosen"] and (row["at"], look["node"]) not in asked:
+                    asked.add((row["at"], look["node"]))
                     answers.append(self.move(address, {"token": token, "node": look["node"], "at": row["at"], "rule": look["rule"]}
                                              | ({"with": look["pointing"][0]} if look["rule"] == "marriage" else {})))
+        self.assertEqual(row, {"ended": "the class is over"})
         self.assertIn("move", answers)
         self.assertEqual(going.wait(LIMIT), 0)
 
