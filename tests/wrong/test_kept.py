@@ -29,8 +29,11 @@ FILES = {
     "kit/bin/rattle": "prover 1\n",
     "kit/rlibs/std.rlib/format": "std 1\n",
     "kit/rlibs/json.rlib/format": "json 1\n",
-    "crates/lowest/out/rlib/lowest.rlib/format": "lowest 1\n",
-    "crates/below/out/rlib/below.rlib/format": "below 1\n",
+    "crates/lowest/out/rlib/lowest.rlib/format": "lowest 1\nchecked 1\nsum 1\n",
+    "crates/lowest/out/rlib/lowest.rlib/toolchain/checked.a": "statements 1\n",
+    "crates/lowest/out/rlib/lowest.rlib/lang/antt/proofs/Lemmas.antt": "proof 1\n",
+    "crates/below/out/rlib/below.rlib/format": "below 1\nchecked 1\nover lowest 1\nneeds std 1\nsum 1\n",
+    "crates/below/out/rlib/below.rlib/interface/lang/src/lib.rt": "fn g();\n",
     "crates/beside/out/rlib/beside.rlib/format": "beside 1\n",
     "crates/above/src/lib.rt": "one\n",
     "crates/above/src/other.rt": "other\n",
@@ -40,7 +43,7 @@ FILES = {
     "crates/above/wrong/it.edit": EDIT,
 }
 # All files on which a check of the crate `above` depends, and those on which it doesn't depend.
-READ = [it for it in FILES if not it.startswith(("crates/beside", "crates/above/README"))]
+READ = [it for it in FILES if not it.startswith(("crates/beside", "crates/above/README")) and "lang/antt/proofs" not in it]
 UNREAD = [it for it in FILES if it not in READ]
 
 
@@ -68,6 +71,7 @@ def round_of(made: Tree) -> Round:
 def name_in(made: Tree) -> str:
     """Returns the name of the only round of the crate `above`, from the files as they are now."""
     kept.hash_of.cache_clear()
+    kept.hash_of_library.cache_clear()
     return name_of(made, "above", round_of(made))
 
 
@@ -102,6 +106,46 @@ class Names(unittest.TestCase):
             write(made.top, "crates/above/proofs/More.antt", "other\n")
             self.assertNotIn(name_in(made), (before, more))
 
+    def test_the_hashes_of_whole_libraries_do_not_change_the_name(self) -> None:
+        """These are the hashes in `format`, which change if a proof or a comment of a lower crate does. Another line of
+        this file changes the name."""
+        path = "crates/below/out/rlib/below.rlib/format"
+        for old, is_read in (("over lowest 1", False), ("needs std 1", False), ("sum 1", False), ("checked 1", True), ("below 1", True)):
+            with self.subTest(old), tree() as made:
+                before = name_in(made)
+                write(made.top, path, FILES[path].replace(old, old.replace("1", "2")))
+                self.assertEqual(name_in(made) != before, is_read)
+
+    def test_a_library_of_the_toolchain_counts_as_a_whole(self) -> None:
+        with tree() as made:
+            before = name_in(made)
+            write(made.top, "kit/rlibs/std.rlib/format", "std 1\nsum 2\n")
+            self.assertNotEqual(name_in(made), before)
+
+    def test_a_line_that_is_only_a_comment_does_not_change_the_name(self) -> None:
+        cases = (("src/other.rt", "other\n    /// A comment.\n// One more.\n"),
+                 ("specs/Lib.antt", "-- A comment.\nspecs\n--\n"),
+                 ("proofs/Lib.antt", "proofs\n  -- A comment."))
+        for path, text in cases:
+            with self.subTest(path), tree() as made:
+                before = name_in(made)
+                write(made.top, f"crates/above/{path}", text)
+                self.assertEqual(name_in(made), before)
+
+    def test_a_line_that_only_looks_like_a_comment_changes_the_name(self) -> None:
+        """Such a line is part of a longer string, or of code, or its file has another kind of comments."""
+        cases = (("src/other.rt", 'f("\n// one", \'"\')\n'),
+                 ("src/other.rt", 'let a = r#"\n// one\n"#;\n'),
+                 ("src/other.rt", "f() // one\n"),
+                 ("specs/Lib.antt", "--one two\n"),
+                 ("specs/Lib.antt", "// one\n"))
+        for path, text in cases:
+            with self.subTest(text), tree() as made:
+                write(made.top, f"crates/above/{path}", text)
+                before = name_in(made)
+                write(made.top, f"crates/above/{path}", text.replace("one", "another"))
+                self.assertNotEqual(name_in(made), before)
+
     def test_another_goal_of_an_edit_changes_the_name(self) -> None:
         with tree() as made:
             before = name_in(made)
@@ -125,6 +169,7 @@ class Keeping(unittest.TestCase):
         ended = Ended(1, "", 1.0)
         with tree() as made, patch.object(trying, "try_round", return_value=ended), patch.object(trying, "judge", return_value=found):
             kept.hash_of.cache_clear()
+            kept.hash_of_library.cache_clear()
             results = Results(kept=Kept(folder))
             return try_crate(made, "above", Running(), results), try_crate(made, "above", Running(), results)
 
@@ -157,6 +202,20 @@ class Keeping(unittest.TestCase):
                 """Changes a file of the crate, as somebody may do while a check runs. Returns the result of the
                 check."""
                 write(made.top, "crates/above/src/other.rt", "changed\n")
+                return Ended(1, "", 1.0)
+
+            with patch.object(trying, "try_round", side_effect=change), patch.object(trying, "judge", return_value=Judged()):
+                tried = try_crate(made, "above", Running(), Results(kept=Kept(Path(room))))
+            self.assertEqual((tried.passed, [*Path(room).iterdir()]), (1, []))
+
+    def test_a_result_is_not_kept_if_a_library_changed_during_the_check(self) -> None:
+        """The library is that of a lower crate, and another run builds it anew, with other statements."""
+        library = "crates/below/out/rlib/below.rlib"
+        with tree() as made, tempfile.TemporaryDirectory() as room:
+            def change(*_: object) -> Ended:
+                """Changes the library. Returns the result of the check."""
+                write(made.top, f"{library}/interface/lang/src/lib.rt", "fn h();\n")
+                write(made.top, f"{library}/format", FILES[f"{library}/format"].replace("sum 1", "sum 2"))
                 return Ended(1, "", 1.0)
 
             with patch.object(trying, "try_round", side_effect=change), patch.object(trying, "judge", return_value=Judged()):

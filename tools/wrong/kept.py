@@ -2,9 +2,10 @@
 
 If all edits of a round were refused at their goals, a file notes it. The file's name is a hash of everything that the
 result depends on: the crate's files with the edits, the libraries below the crate, the prover, and this tool. So a
-change of one of these makes another name, and the round is tried again. `rt ci` keeps the results of proofs in the same
-way. Whoever can write to the folder of these files can make the tool skip a round. In all functions here, `tree` is the
-copy of the repository.
+change of one of these makes another name, and the round is tried again. Comments don't count, and of a library below
+only what it states counts, not its proofs. So after a change of comments, or of proofs in a lower crate, fewer rounds
+are tried again. Whoever can write to the folder of these files can make the tool skip a round. In all functions here,
+`tree` is the copy of the repository.
 """
 from __future__ import annotations
 
@@ -12,6 +13,7 @@ import contextlib
 import functools
 import hashlib
 import os
+import re
 from collections.abc import Iterator
 from pathlib import Path
 
@@ -21,6 +23,14 @@ from tools.wrong.libraries import Tree
 HERE = Path(__file__).resolve().parent
 MOST_FILES = 5000  # the most results that are kept
 PARTS = ("src", "specs", "proofs")  # the folders of a crate that a check reads
+# A library has the texts of its proofs, but a check over the library reads only the compiled statements.
+PROOF_TEXTS = "lang/antt/proofs/"
+# The lines of a library's file `format` with hashes of libraries, which depend on the texts of their proofs, too.
+SUMS = re.compile(rb"(?m)^(?:sum|over|needs) .*\n?")
+# The lines that are only a comment, by the ends of files' names. Derived code doesn't read comments here.
+COMMENTS = {".rt": re.compile(rb"(?m)^[ \t]*//.*\n?"), ".antt": re.compile(rb"(?m)^[ \t]*--(?:[ \t].*)?(?:\n|$)")}
+# A character, or a comment at the end of a line, that may have a quotation mark without beginning or ending a string.
+NO_STRING = re.compile(rb"'\\?\"'|\\\"|//.*")
 
 
 def folder_of_user() -> Path:
@@ -36,19 +46,46 @@ def prover_files(tree: Tree) -> Iterator[Path]:
     yield from sorted(HERE.glob("*.py"))
 
 
-def library_files(tree: Tree, crate: str) -> Iterator[Path]:
-    """Yields the file of each library below a crate that contains the hash of the library."""
+def has_long_string(text: bytes) -> bool:
+    """Returns whether a string in the text of a source file may go over several lines, so that one of its lines may look
+    like a comment."""
+    return any(line.count(b'"') % 2 for line in NO_STRING.sub(b"", text).splitlines())
+
+
+def without_comments(path: str, text: bytes) -> bytes:
+    """Returns the text of a crate's file without the lines that are only a comment."""
+    comment = COMMENTS.get(os.path.splitext(path)[1])
+    return text if comment is None or has_long_string(text) else comment.sub(b"", text)
+
+
+@functools.lru_cache(maxsize=None)
+def hash_of_library(library: Path, _: bytes) -> bytes:
+    """Returns the hash of what a check over a library reads of the library. The second argument is the content of the
+    library's file `format`, which changes whenever the library does. So the library is read again only then."""
+    total = hashlib.sha256()
+    for file in sorted(it for it in library.rglob("*") if it.is_file()):
+        path, content = str(file.relative_to(library)), file.read_bytes()
+        if not path.startswith(PROOF_TEXTS):
+            content = SUMS.sub(b"", content) if file.name == "format" else content
+            total.update(f"{path} {len(content)}\n".encode() + content)
+    return total.digest()
+
+
+def library_texts(tree: Tree, crate: str) -> Iterator[tuple[str, bytes]]:
+    """Yields the name of each library below a crate, and the hash of what a check reads of the library. For a library
+    of the toolchain, yields the content of its file `format`, which has the library's hash."""
     for name in sorted({"std", *tree.uses[crate], *tree.below(crate), *(it for below in tree.below(crate) for it in tree.uses[below])}):
-        yield tree.library(name) / "format"
+        form = (tree.library(name) / "format").read_bytes()
+        yield f"{name}.rlib", hash_of_library(tree.library(name), form) if name in tree.uses else form
 
 
 def crate_texts(folder: Path, texts: dict[str, str]) -> Iterator[tuple[str, bytes]]:
-    """Yields the path and the content of each file of a crate that a check reads. `texts` has the contents of the files
-    that edits change."""
+    """Yields the path and the content of each file of a crate that a check reads, without comments. `texts` has the
+    contents of the files that edits change."""
     for part in PARTS:
         for file in sorted(it for it in (folder / part).rglob("*") if it.is_file()):
             path = str(file.relative_to(folder))
-            yield path, texts[path].encode() if path in texts else file.read_bytes()
+            yield path, without_comments(path, texts[path].encode() if path in texts else file.read_bytes())
 
 
 @functools.lru_cache(maxsize=None)
@@ -68,8 +105,8 @@ def name_of(tree: Tree, crate: str, tried: Round) -> str:
 
     for file in prover_files(tree):
         add(file.name, hash_of(file))
-    for file in library_files(tree, crate):
-        add(file.parent.name, file.read_bytes())
+    for name, content in library_texts(tree, crate):
+        add(name, content)
     for path, content in crate_texts(tree.folder(crate), tried.texts):
         add(path, content)
     for edit in tried.edits:
