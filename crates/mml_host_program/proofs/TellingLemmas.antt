@@ -1,13 +1,13 @@
 -- The lines that the host of a class writes, if the class is new or if it is resumed.
-use Rattle.std.{proofs.Common.◌≡◌, proofs.Common.ℕ, proofs.Common.false, proofs.Common.List, proofs.Common.◌++◌, proofs.Common.length, proofs.Common.Option, proofs.Common.sym, proofs.Common.subst, specs.Io.KnownBytes.Appends}
-use mathlib.Core.List.{IsPrefix}
+use Rattle.std.proofs.{lemmas.Bool.Decides.nat_tests, Common.arith}
+use Rattle.std.{proofs.Common.◌≡◌, proofs.Common.ℕ, proofs.Common.false, proofs.Common.List, proofs.Common.length, proofs.Common.Option, specs.Io.KnownBytes.Appends}
 use Rattle.mml_lab.specs.Labs.{LabValue}
 use Rattle.mml_board.specs.{declared.event.Event.Event, Lists.world_in}
 use Rattle.mml_window.specs.declared.log.Log.{Log}
 use Rattle.mml_session.specs.Records.{Kept}
 use Rattle.mml_serving.specs.Closings.{done_line}
 use Rattle.mml_hosting.specs.{declared.seat.ServedSession.ServedSession, declared.hosted.Hosted.Hosted, Hosting.HostsFrom}
-use Rattle.mml_resuming.specs.Resuming.{resumed_line, Resumes}
+use Rattle.mml_resuming.specs.Resuming.{Resumes}
 use Rattle.mml_host_program.specs.Telling.{EndsWell, ports_line, TellsResumed}
 
 module _ {S K C R W : Type 0} (lab : LabValue) (given : ℕ → Option Kept) (sink : S → Option (List ℕ)) (remaining : R → Option (List ℕ))
@@ -17,9 +17,7 @@ module _ {S K C R W : Type 0} (lab : LabValue) (given : ℕ → Option Kept) (si
   pub ends_well : (begun : List Event) → HostsFrom begun given lab sink remaining contents recorded shows to_desk to_come house
       → Appends wrote wrote' (done_line (length house.log.events) (world_in lab house.log.events).number)
       → EndsWell (length begun) lab sink wrote wrote' log
-  ends_well begun hosts last =
-      subst (λ (l : Log S). EndsWell (length begun) lab sink wrote wrote' l) (sym same)
-      (record { windows = hosts.desk_windows ++ hosts.windows; kept = hosts.kept; unhalted = unhalted; last = last })
+  ends_well begun hosts last = grind (arith, nat_tests)
 
 -- a host resumed a class, and wrote the line with the ports first
 module _ {S K C R W : Type 0} (lab : LabValue) (old first : List ℕ) (given : ℕ → Option Kept) (sink : S → Option (List ℕ)) (remaining : R → Option (List ℕ))
@@ -28,11 +26,4 @@ module _ {S K C R W : Type 0} (lab : LabValue) (old first : List ℕ) (given : �
   pub told_resumed : log ≡ house.log → house.log.halted ≡ false
       → Resumes lab old first given sink remaining contents recorded shows to_desk to_come wrote wrote' house → first ≡ ports_line port desk
       → TellsResumed lab sink old port desk wrote wrote' log
-  told_resumed same unhalted r ports = record {
-    begun = r.begun;
-    between = r.between;
-    journal = r.journal;
-    begins = subst (λ (l : Log S). IsPrefix r.begun l.events) (sym same) r.hosts.begins;
-    first = subst (λ (f : List ℕ). Appends wrote r.between (f ++ resumed_line (world_in lab r.begun))) ports r.begins;
-    ends = ends_well lab given sink remaining contents recorded shows to_desk to_come r.between wrote' house log same unhalted r.begun r.hosts r.ends;
-  }
+  told_resumed same unhalted r ports = grind (arith, nat_tests, ends_well)

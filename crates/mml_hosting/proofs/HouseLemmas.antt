@@ -2,12 +2,12 @@
 -- that threads share. The book of a house has the granted events, the board after them and their journal; the log of a
 -- house is its result. A window is what the sessions of a seat have seen of the list of events, and the places of the
 -- events that were granted to them. The desk is dismissed by the teacher's bye.
-use Rattle.std.proofs.Common.{rules, ◌≡◌, ◌∙◌, ap, sym, subst, ℕ, zero, suc, ◌+◌, ◌<◌, ◌≤◌, ◌==◌, Bool, true, false, List, [], ◌∷◌, ◌++◌, flat_map, length, length-append, refl, All, Option, Result, Ok, Err, IfOk, MatchBool, arith}
+use Rattle.std.proofs.Common.{◌≡◌, ◌∙◌, ap, sym, subst, ℕ, zero, suc, ◌+◌, ◌<◌, ◌≤◌, ◌==◌, Bool, true, false, List, [], ◌∷◌, ◌++◌, flat_map, length, length-append, refl, All, Option, Result, Ok, Err, IfOk, MatchBool, arith}
 use Rattle.std.{specs.List.AllZip, specs.List.list_all, specs.List.range_with_len, specs.List.sum_by, proofs.KnownBytes.Appends-nil}
 use Rattle.std.proofs.lemmas.{Bool.Decides.nat_tests, List.length-map, List.map-append, List.Sums.AllPass-from_list_all, List.Sums.sum_by-append, List.Sums.sum_by-cons, List.Sums.sum_by_push, List.Concat.flat_map-cons}
 use Rattle.std.proofs.lemmas.List.Elements.{All-nil, All-cons, All-head, All-tail, All-map, All-append, All-weaker}
 use Rattle.mml_hosting.specs.{declared.seat.Seat.Seat, declared.hosted.Hosted.Hosted, declared.hosted.HostFault.HostFault, Seats.AreGiven, Seats.AreGoingOn, Seats.IsDismissed, Seats.IsSeat, Seats.Led, Seats.Terms, Seats.came_to, Seats.kept_from}
-use Rattle.mml_hosting.specs.{Seats.is_teachers_bye, Seats.sessions_of, Ports.HaveSame, Ports.ServesPort, Ports.numbers_of, Ports.records_of, Ports.windows_of, Hosting.HostsFrom, Hosting.IsUnused, Faults.fault_of}
+use Rattle.mml_hosting.specs.{Seats.sessions_of, Ports.HaveSame, Ports.ServesPort, Ports.numbers_of, Ports.records_of, Ports.windows_of, Hosting.HostsFrom, Hosting.IsUnused, Faults.fault_of}
 use Rattle.mml_hosting.specs.Failing.{EndsWithoutLog, HostsBadly, HostsEarly, ServesBoth}
 use Rattle.mml_board.specs.World.{World}
 use Rattle.mml_serving.specs.{declared.serving.ServeFault.ServeFault, Closings.IsCutShort, Closings.LacksLastLine, Closings.done_line, Endings.LeavesBook}
@@ -24,8 +24,7 @@ use Rattle.mml_hosting.specs.declared.hosted.HostFault.TheVariants as fault
 -- exactly the desk's seat has the number 1
 pub desk_is_one : (desk : Bool) (first k total number : ℕ) → MatchBool desk ((first ≡ 1) × (total ≡ 1)) (1 < first) → number ≡ first + k → k < total
     → desk ≡ (number == 1)
-desk_is_one true first k total number at next below = let one : number ≡ 1 = omega (arith, at.0, at.1) in rw one refl
-desk_is_one false first k total number at next below = let more : 1 < number = omega arith in grind (arith, nat_tests)
+desk_is_one desk first k total number at next below = grind (arith, nat_tests)
 
 -- if the windows of the seats have seen `begun`, and all windows have seen beginnings of `l`, `begun` is a beginning of
 -- `l`
@@ -55,8 +54,7 @@ range_more a (suc n) =
 
 pub numbers_more : {H K C : Type 0} (first n m : ℕ) (ss ss' : List (Seat H K C)) (s : Seat H K C) → ss' ≡ ss ++ s ∷ [] → m ≡ suc n
     → numbers_of (records_of ss) ≡ range_with_len first n → s.record.number ≡ first + n → numbers_of (records_of ss') ≡ range_with_len first m
-numbers_more first n m ss ss' s one more before here =
-    rw (one, map-append (λ q. q.record) ss (s ∷ []), map-append (λ r. r.number) (records_of ss) (s.record ∷ []), more, range_more first n, before, here) refl
+numbers_more first n m ss ss' s one more before here = grind (arith, nat_tests, map-append, range_more)
 
 -- if `given` has, for each number from n on, what the observer of this number has kept, `AreGiven` is true
 pub are_given : {C : Type 0} (given : ℕ → Option Kept) (kept : C → Option Kept) (n : ℕ) (cs : List C)
@@ -70,12 +68,7 @@ are_given given kept n (c ∷ cs) same =
 
 module _ {H K C R W : Type 0} (t : Terms K C R W) where
   fresh_seat : (s : Seat H K C) → IsUnused t.begun t.given t.recorded s → IsSeat t s
-  fresh_seat s h = record {
-    desk = h.desk;
-    led = rw (h.sessions, h.unseen, h.observer) refl;
-    dismissed = λ so. absurd (search (rules, so, h.dismissed));
-    going_on = λ at so. rw h.sessions (All-nil (λ s. is_teachers_bye s.ending ≡ false));
-  }
+  fresh_seat s h = grind (arith, nat_tests, All-nil)
 
   pub all_fresh : (ss : List (Seat H K C)) → All (IsUnused t.begun t.given t.recorded) ss → All (IsSeat t) ss
   all_fresh ss h = λ k d lt. fresh_seat _ (h k d lt)
@@ -92,21 +85,13 @@ module _ {H K C R W : Type 0} (t : Terms K C R W) where
   one_going_on : (ss : List (Seat H K C)) → length ss ≡ 1 → All (IsSeat t) ss → HaveSame (1 ∷ []) (numbers_of (records_of ss))
       → list_all (λ s. s.is_dismissed) ss ≡ false → All (λ r. AreGoingOn (sessions_of t.shows r)) (records_of ss)
   one_going_on [] one seats numbers undismissed = absurd (omega (arith, one))
-  one_going_on (s ∷ []) one seats numbers undismissed =
-      let is = All-head (IsSeat t) s [] seats in
-      let same : sum_by (λ n. n) (1 ∷ []) ≡ sum_by (λ n. n) (s.record.number ∷ []) = numbers (λ n. n) in
-      let number : s.record.number ≡ 1 = omega (arith, same, sum_by_push (λ n. n) [] 1, sum_by_push (λ n. n) [] s.record.number) in
-      let desk : s.is_desk ≡ true = rw (is.desk, number) refl in
-      let going : s.is_dismissed ≡ false = grind (arith, nat_tests) in
-      All-cons (λ r. AreGoingOn (sessions_of t.shows r)) s.record [] (is.going_on desk going) (All-nil (λ r. AreGoingOn (sessions_of t.shows r)))
+  one_going_on (s ∷ []) one seats numbers undismissed = grind (arith, nat_tests, All-head (IsSeat t) s [] seats, numbers (λ n. n), sum_by_push, All-cons, All-nil)
   one_going_on (s ∷ q ∷ ss) one seats numbers undismissed = absurd (omega (arith, one))
 
   none_came : (ss : List (Seat H K C)) → All (IsUnused t.begun t.given t.recorded) ss → flat_map (came_to t.shows) (records_of ss) ≡ []
   none_came [] h = refl
   none_came (s ∷ ss) h =
-      let first = All-head (IsUnused t.begun t.given t.recorded) s ss h in
-      let rest = none_came ss (All-tail (IsUnused t.begun t.given t.recorded) s ss h) in
-      flat_map-cons (came_to t.shows) s.record (records_of ss) ∙ rw (rest, first.sessions) refl
+      grind (arith, nat_tests, All-head (IsUnused t.begun t.given t.recorded) s ss h, none_came ss (All-tail (IsUnused t.begun t.given t.recorded) s ss h), All-tail, flat_map-cons)
 
   -- if seats were dismissed, the teacher's bye ended the last session of each
   dismissed_all : (ss : List (Seat H K C)) → All (IsSeat t) ss → All (λ s. s.is_dismissed ≡ true) ss
@@ -215,10 +200,7 @@ module _ {S H K C : Type 0} (first : ℕ) (lab : LabValue) (sink : S → Option 
 module _ {S K C R W : Type 0} (t : Terms K C R W) (sink : S → Option (List ℕ)) (to_desk to_come : Option (List (R × W))) where
   -- if there is no log, nothing was written
   pub badly_early : (wrote : Option (List ℕ)) (f : HostFault) → HostsEarly t sink to_desk to_come f → HostsBadly t sink to_desk to_come wrote wrote f
-  badly_early wrote fault.Memory early = Appends-nil wrote
-  badly_early wrote fault.Undismissed early = (early, Appends-nil wrote)
-  badly_early wrote fault.Astray early = (early, Appends-nil wrote)
-  badly_early wrote _ early = absurd early
+  badly_early wrote f early = grind (arith, nat_tests, Appends-nil)
 
   -- if there is a log, the error is the reason why the host's last line wasn't written whole
   pub badly_logged : (house : Hosted S K C)

@@ -23,10 +23,7 @@ sum_more f xs xs' x one = rw one (sum_by_push f xs x)
 pub led_more : {K C R W : Type 0} (t : Terms K C R W) (old : SeatRecord K C) (xs : List K) (w v : WindowValue) (x : K) (c : C)
     → xs ≡ old.sessions.items ++ x ∷ [] → Led t old w → Leads t old.number (t.shows x) (stand w (t.recorded old.observer)) (stand v (t.recorded c))
     → Chain (Leads t old.number) (stand (window t.begun []) (t.given old.number)) (map t.shows xs) (stand v (t.recorded c))
-led_more t old xs w v x c one so_far it =
-    rw (one, map-append t.shows old.sessions.items (x ∷ []))
-    (run_longer (λ st s r next. Leads t old.number s st next) (stand (window t.begun []) (t.given old.number)) (stand w (t.recorded old.observer))
-    (stand v (t.recorded c)) (sessions_of t.shows old) (sessions_of t.shows old) (t.shows x) (t.shows x) so_far it)
+led_more t old xs w v x c one so_far it = grind (arith, nat_tests, map-append, run_longer)
 
 -- The sessions of a seat, and one more (`x`). `now` is whether the seat is at the desk and the teacher's bye ended this
 -- session. At the desk, the teacher's bye ended none of the earlier ones

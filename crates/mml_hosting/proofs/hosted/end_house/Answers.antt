@@ -4,9 +4,7 @@ use Rattle.mml_hosting.proofs.HouseLemmas.{ended_undismissed, ended_astray}
 use Rattle.mml_hosting.proofs.hosted.end_house.Goals as goal
 
 pub returns-in-Ok-ended-clause-kept : goal.returns-in-Ok-ended-clause-kept
-returns-in-Ok-ended-clause-kept g c =
-    let all : c.append.new.self.items ≡ windows_of c.args.desk_seats.items ++ windows_of c.args.seats.items = search rules in
-    rw all at c.in-Ok-ended.ensures.log
+returns-in-Ok-ended-clause-kept g c = search (rules)
 
 pub returns-in-Ok-ended-clause-dismissed : goal.returns-in-Ok-ended-clause-dismissed
 returns-in-Ok-ended-clause-dismissed g c = AllPass-from_list_all (λ s. s.is_dismissed) c.args.desk_seats.items (search rules)

@@ -1,5 +1,4 @@
-use Rattle.std.proofs.{Common.◌≡◌, Common.List, Common.[], Common.length, Common.ap, Common.subst, lemmas.Result.IfErr-weaker}
-use Rattle.std.specs.Prelude.{All}
+use Rattle.std.{proofs.Common.◌≡◌, proofs.Common.List, proofs.Common.[], proofs.Common.length, proofs.Common.ap, proofs.Common.subst, proofs.lemmas.Result.IfErr-weaker, specs.Prelude.All}
 use Rattle.mml_board.specs.declared.event.Event.{Event}
 use Rattle.mml_window.specs.Windows.{window}
 use Rattle.mml_hosting.specs.Seats.{terms}

@@ -1,4 +1,4 @@
-use Rattle.std.{proofs.Common.◌≡◌, proofs.Common.◌∷◌, proofs.Common.length, proofs.Common.refl, proofs.Common.subst, specs.Io.KnownBytes.Appends}
+use Rattle.std.{proofs.Common.rules, proofs.Common.◌≡◌, proofs.Common.◌∷◌, proofs.Common.length, proofs.Common.subst, specs.Io.KnownBytes.Appends}
 use Rattle.mml_board.specs.{World.World, Lists.world_in}
 use Rattle.mml_serving.specs.Closings.{done_line}
 use Rattle.mml_hosting.specs.Seats.{kept_from, terms}
@@ -32,6 +32,4 @@ returns-in-Err-write_last-clause-badly g c =
     (g.O.Write.contents c.args.writer.now) (g.O.Write.contents c.write_last.new.writer) c.in-Err-write_last.fault c.in-Err-write_last.ensures.lacking)
 
 pub host_in_house-ended-requires-clause-observers : goal.host_in_house-ended-requires-clause-observers
-host_in_house-ended-requires-clause-observers g c κs within =
-    let cs = c.args.observers.at_desk ∷ c.args.observers.others.items in
-    are_given (kept_from g.Y.Observer.Observer.kept 1 cs) g.Y.Observer.Observer.kept 1 cs (λ m le. refl)
+host_in_house-ended-requires-clause-observers g c κs within = search (rules, are_given)

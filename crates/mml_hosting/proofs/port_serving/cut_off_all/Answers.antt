@@ -1,4 +1,4 @@
-use Rattle.std.proofs.{Common.rules, Common.◌≡◌, Common.◌<◌, Common.All, Common.length, Common.get_or, Common.subst, lemmas.List.take_all, lemmas.List.Elements.All-more}
+use Rattle.std.proofs.{Common.rules, Common.◌≡◌, Common.◌<◌, Common.length, Common.get_or, Common.subst, lemmas.List.take_all, lemmas.List.Elements.All-more}
 use Rattle.mml_hosting.specs.declared.port_serving.Busy.{Busy}
 use Rattle.mml_hosting.proofs.port_serving.cut_off_all.Goals as goal
 
@@ -13,6 +13,4 @@ loop-index-preserved g c =
     All-more IsCut xs i b within c.loop-index.invariant (subst IsCut was c.cut_off.ensures)
 
 pub returns : goal.returns
-returns g c =
-    let IsCut : Busy g.row.H.Denot g.row.Y-Kept.Denot g.row.Y-Observer.Denot g.row.Y-Reader.Denot g.row.Y-Writer.Denot g.row.Y-CutOff.Denot → Type 0 = λ b. g.Y.CutOff.CutOff.IsCutOff b.cut_off in
-    subst (All IsCut) (take_all c.loop-index.index c.args.busy.now.items (search rules)) c.loop-index.invariant
+returns g c = search (rules, take_all)

@@ -29,18 +29,7 @@ loop-preserved-in-Came g c =
     }
 
 pub loop-preserved : goal.loop-preserved
-loop-preserved g c =
-    let at = c.loop.invariant in
-    let same = c.gather.ensures in
-    record {
-      next = tt;
-      finite = tt;
-      seats = same.seats;
-      history = nobody_came _ _ _ _ _ _ _ _ _ _ at.history c.in-Nobody.ensures same.count;
-      len = omega (arith, at.len, same.len);
-      free_room = omega (arith, at.free_room, same.len, same.capacity);
-      busy_room = omega (arith, at.busy_room, same.len, same.busy_capacity);
-    }
+loop-preserved g c = search (rules, nobody_came)
 
 pub returns-clause-serves : goal.returns-clause-serves
 returns-clause-serves g c =
