@@ -29,6 +29,36 @@ KNOWN = {
     "node": ("id", "owner", "owners", "p", "m"),
 }
 ABOVE = "above"  # in place of a similar key: the key belongs above all tables
+# What is wrong, or what the format allows, for errors of the program that don't say it.
+HINTS = {
+    "owner and owners": "A node has either `owner` or `owners`. Delete one of the two",
+    "identifier stands twice": "An earlier node has the same `id`",
+    "name stands twice": "An earlier participant has the same name",
+    "owner stands twice": "The two owners are the same student",
+    "stands twice": "An earlier link joins the same nodes",
+    "no such owner": "Each owner has to be the `name` of a student in this file",
+    "no such node": "Each end of a link has to be the `id` of a node in this file",
+    "p is not a neighbour": "`p` has to be the `id` of a node that a link joins to this node",
+    "node.owner is missing": "This node has neither `owner` nor `owners`. Write one of the two",
+}
+WRONG_KIND = "is of the wrong kind"  # the end of the program's error about a value
+# What a value has to be, by the key that this error names, without the name of the table before it.
+WANTED = {
+    "events": "`events` has to be an integer, without quotes",
+    "sessions": "`sessions` has to be an integer, without quotes",
+    "teacher": "The teacher's `name` and `key` have to be below one line [teacher]",
+    "student": "The `name` and `key` of each student have to be below a line [[student]]",
+    "node": "The `id` and the owner of each node have to be below a line [[node]]",
+    "name": "`name` has to be a text in quotes",
+    "key": "`key` has to be a text in quotes",
+    "id": "`id` has to be an integer, without quotes",
+    "owner": "`owner` has to be the name of one student, in quotes",
+    "owners": '`owners` has to be a list of one or two names of students, such as ["ana", "ben"]',
+    "p": "`p` has to be the `id` of a neighbour: an integer, without quotes",
+    "m": "`m` has to be true or false, without quotes",
+    "links": "`links` has to be a list of links, such as [[1, 2], [2, 3]]",
+    "link": "Each link has to be a list of two integers, such as [1, 2]",
+}
 MOST_LISTED = 8  # the most nodes that a warning names
 ENOUGH_BITS = 64  # the bits that a key needs if a person may have chosen it
 ENOUGH_DRAWN = keys.bits_of(keys.WORDS_EACH, keys.DIGITS)  # the bits that a key needs if it was drawn by lot, as `new` does
@@ -62,31 +92,32 @@ def suggestion(key: str, meant: str) -> str:
 
 
 def hint_of(error: str) -> str:
-    """Returns what the format allows, for an error of the program that doesn't say it. Returns an empty text for any
-    other error, or if the program doesn't print its limits."""
-    most = limits.known()
+    """Returns what is wrong or what the format allows, for an error of the program that doesn't say it. Returns an empty
+    text for any other error, and for an error about a limit if the program doesn't print its limits."""
     what = re.sub(r"^lab: (?:\w+ \d+: )?", "", error)
-    hints = {} if most is None else {
+    if what.endswith(WRONG_KIND):
+        return WANTED.get(what.removesuffix(WRONG_KIND).strip().rpartition(".")[2], "")
+    most = limits.known()
+    return (HINTS if most is None else HINTS | hints_of_limits(most)).get(what, "")
+
+
+def hints_of_limits(most: limits.Limits) -> dict[str, str]:
+    """Returns the hints that name the program's limits, by the errors of the program."""
+    return {
         "bad name or key": f"A name has 1 to {most.name} letters a to z, digits and hyphens, and begins with a letter. "
                            f"A key has 1 to {most.key} printable ASCII characters, and no space",
-        "owner and owners": "A node has either `owner` or `owners`. Delete one of the two",
         "identifier out of range": f"`id` has to be from 1 to {most.identifier}",
-        "identifier stands twice": "An earlier node has the same `id`",
-        "name stands twice": "An earlier participant has the same name",
-        "owner stands twice": "The two owners are the same student",
-        "stands twice": "An earlier link joins the same nodes",
         "too many nodes": f"A lab can have at most {most.nodes} nodes",
         "events is out of its limits": f"`events` has to be from 1 to {most.events}",
         "sessions is out of its limits": f"`sessions` has to be from 1 to {most.sessions}",
         "student is out of its limits": f"A lab can have at most {most.students} students",
     }
-    return hints.get(what, "")
 
 
 def place_of_error(text: str, error: str) -> tuple[int | None, str]:
     """Returns the number of the line that the program's error about a lab's text refers to, or None if the line isn't
-    found. Also returns a text to print after the number, which may be empty: the message of the TOML reader, or the
-    identifier of a node."""
+    found. Also returns a text to print after the number, which may be empty: the message of the TOML reader, the
+    identifier of a node, or which participant it is."""
     if error == "lab: not a TOML document":
         try:
             tomllib.loads(text)
@@ -97,20 +128,27 @@ def place_of_error(text: str, error: str) -> tuple[int | None, str]:
         return None, ""
     numbered = re.match(r"lab: (node|principal|link) (\d+): (.*)", error)
     if numbered is None:
-        key = re.match(r"lab: ([\w.]+) is (?!missing)", error)  # A missing key is on no line.
-        return line_of_key(text, key[1]) if key else (None, "")
+        key = re.match(r"lab: ([\w.]+) (is .*)", error)
+        return place_of_key(text, key[1], key[2]) if key else (None, "")
     kind, index, fault_text = numbered[1], int(numbered[2]), numbered[3]
     if kind == "link":
         return positions.link(text, index), ""
     # The principal 0 is the teacher, and the students have the numbers from 1 on.
     name = "node" if kind == "node" else "student" if index else "teacher"
-    table = positions.table(text, name, index if kind == "node" else max(index - 1, 0))
+    place = index if kind == "node" else max(index - 1, 0)
+    table = positions.table(text, name, place)
     if table is None:
         return None, ""
     wanted = {"no such owner": ("owner", "owners"), "owner stands twice": ("owners",), "p is not a neighbour": ("p",),
               "name stands twice": ("name",)}.get(fault_text, ("id",) if kind == "node" else ())
     line = next((table.keys[key] for key in wanted if key in table.keys), table.line)
-    return line, identifier(text, table) if kind == "node" else ""
+    return line, whose(text, table, place)
+
+
+def whose(text: str, table: positions.Table, index: int) -> str:
+    """Returns the text to print after a line of the table of a node or a participant: which one it is, in brackets.
+    `index` is that of the table among those of its name, counted from 0."""
+    return {"node": identifier(text, table), "student": f" (student number {index + 1})", "teacher": " (the teacher)"}[table.name]
 
 
 def identifier(text: str, table: positions.Table) -> str:
@@ -121,13 +159,57 @@ def identifier(text: str, table: positions.Table) -> str:
     return f" (the node with identifier {found[1]})" if found else ""
 
 
-def line_of_key(text: str, key: str) -> tuple[int | None, str]:
-    """Returns the number of the line with the key that an error names, such as `teacher.name`. The number is None
-    unless exactly one table of that name has the key. Also returns an empty text, because `place_of_error` needs a text
-    to print after the number."""
-    table, _, word = key.rpartition(".")
-    lines = [each.keys[word] for each in positions.tables(text) if each.name == table and word in each.keys]
-    return (lines[0], "") if len(lines) == 1 else (None, "")
+def place_of_key(text: str, key: str, what: str) -> tuple[int | None, str]:
+    """Returns a line and a text for an error about a key, such as `node.p`, as `place_of_error` does. `what` is the end
+    of the error, for example `is missing`. If the key is missing in a table, the line is the first one of this table.
+    If a value has the wrong kind, the line is that of its key."""
+    if "." not in key:
+        return line_of_document_key(text, key, what == WRONG_KIND), ""
+    name, word = key.split(".")
+    own = [each for each in positions.tables(text) if each.name == name]
+    if what == "is missing":
+        words = {"owner", "owners"} if word == "owner" else {word}
+        index = next((at for at, each in enumerate(own) if not words.intersection(each.keys)), None)
+    else:
+        having = [at for at, each in enumerate(own) if word in each.keys]
+        index = having[0] if len(having) == 1 else index_of_wrong(labs.parsed(text).get(name), word)
+    if index is None or index >= len(own):
+        return None, ""
+    return own[index].keys.get(word, own[index].line), whose(text, own[index], index)
+
+
+def line_of_document_key(text: str, key: str, is_wrong: bool) -> int | None:
+    """Returns the number of the line with a key of the document, or None if the key isn't found. `link` stands for an
+    element of `links`. If `is_wrong` is set, the value has the wrong kind. Then the result is the line of the first
+    wrong link, and for the other keys it may also be the line of the first table with this name."""
+    if key == "link":
+        index = index_of_wrong(labs.parsed(text).get("links"), key)
+        return None if index is None else positions.link(text, index)
+    tables = positions.tables(text)
+    headers = [each.line for each in tables if each.name == key] if is_wrong else []
+    return tables[0].keys.get(key, headers[0] if headers else None)
+
+
+def index_of_wrong(values: object, word: str) -> int | None:
+    """Returns the index of the first element of `values` whose value under the key `word` has the wrong kind. If `word`
+    is `link`, returns that of the first list that isn't a link. Returns None if there is no such element, or if `values`
+    isn't a list."""
+    every = values if isinstance(values, list) else []
+    if word == "link":
+        return next((at for at, each in enumerate(every) if isinstance(each, list) and not is_link(each)), None)
+    return next((at for at, each in enumerate(every) if isinstance(each, dict) and word in each and not has_kind(each[word], word)), None)
+
+
+def has_kind(value: object, word: str) -> bool:
+    """Returns whether the value of the key `word` of a participant or a node has the right kind."""
+    if word == "owners":
+        return isinstance(value, list) and len(value) in (1, 2) and all(isinstance(each, str) for each in value)
+    return type(value) is {"id": int, "p": int, "m": bool}.get(word, str)  # For `isinstance`, true is an integer.
+
+
+def is_link(ends: list[object]) -> bool:
+    """Returns whether the elements of a list are the two ends of a link: two integers."""
+    return len(ends) == 2 and all(type(each) is int for each in ends)
 
 
 def unknown_keys(text: str) -> Iterator[tuple[int, str, str | None]]:

@@ -6,7 +6,7 @@ import math
 import unittest
 
 from classroom.core import lab as labs
-from classroom.setup.check import ABOVE, bits, effort, hint_of, key_warnings, unknown_keys
+from classroom.setup.check import ABOVE, bits, effort, hint_of, key_warnings, place_of_error, unknown_keys
 from classroom.setup.positions import table as table_at
 from classroom.setup.positions import tables
 from tests.classroom.help import EXAMPLES, InRoom, call_class
@@ -56,10 +56,12 @@ class Check(InRoom):
         """The program's errors number nodes, links and people from 0. Person 0 is the teacher."""
         self.says(2, "lab: node 2: no such owner", 'line 27 (the node with identifier 17): owner = "jo"',
                   change=('id = 17\nowner = "jonas"', 'id = 17\nowner = "jo"'))
-        self.says(2, "lab: node.owner is missing", "line 27: onwer isn't known here. Did you mean owner?",
+        self.says(2, "lab: node.owner is missing", "line 25 (the node with identifier 17): [[node]]",
+                  "  This node has neither `owner` nor `owners`. Write one of the two\n", "line 27: onwer isn't known here. Did you mean owner?",
                   change=('id = 17\nowner', 'id = 17\nonwer'))
         self.says(2, "lab: link 1: no such node", "line 3: links", change=("[12, 17]", "[12, 18]"))
-        self.says(2, "lab: principal 2: bad name", 'line 13: [[student]]', change=('"jonas"\nkey = "2f', '"jonas"\nkey = "\\u00e4'))
+        self.says(2, "lab: principal 0: bad name", 'line 5 (the teacher): [teacher]', change=('"tess"', '"Tess"'))
+        self.says(2, "lab: principal 2: bad name", 'line 13 (student number 2): [[student]]', change=('"jonas"\nkey = "2f', '"jonas"\nkey = "\\u00e4'))
         self.says(2, "lab: events is of the wrong kind", 'line 1: events = "many"', change=("events = 1000", 'events = "many"'))
         self.says(2, "lab: not a TOML document", "line 2 ", change=("sessions = 4", "sessions = = 4"))
         self.says(2, "lab: node 1: identifier stands twice", "line 22 (the node with identifier 11)", "  An earlier node has the same `id`\n",
@@ -67,14 +69,49 @@ class Check(InRoom):
         self.says(2, "lab: sessions is out of its limits", f"  `sessions` has to be from 1 to {MOST['sessions']}\n",
                   change=("sessions = 4", "sessions = 99"))
 
+    def test_the_table_with_a_missing_or_wrong_value_is_found_among_others_of_its_name(self) -> None:
+        """The program's error doesn't say which node or student it is about. In each lab, other tables of the same name
+        are correct. The lines are those of GOOD."""
+        integer = "has to be an integer, without quotes"
+        self.says(2, "lab: node.id is missing", "line 21: [[node]]", change=("id = 12\n", ""))
+        self.says(2, "lab: student.key is missing", "line 13 (student number 2): [[student]]", change=('key = "2f3b5a7c9d1e2f48a6b8c0d2e4f61357"', ""))
+        self.says(2, "lab: student.name is of the wrong kind", "line 14 (student number 2): name = 5", "  `name` has to be a text in quotes\n",
+                  change=('name = "jonas"', "name = 5"))
+        self.says(2, "lab: node.id is of the wrong kind", "line 22 (the node with identifier 1): id = 1.2", f"  `id` {integer}\n",
+                  change=("id = 12", "id = 1.2"))
+        self.says(2, "lab: node.owner is of the wrong kind", "line 27 (the node with identifier 17): owner = 5",
+                  "  `owner` has to be the name of one student, in quotes\n", change=('id = 17\nowner = "jonas"', "id = 17\nowner = 5"))
+        self.says(2, "lab: node.owners is of the wrong kind", "line 23 (the node with identifier 12): owners = []",
+                  "  `owners` has to be a list of one or two names of students", change=('id = 12\nowner = "ana"', "id = 12\nowners = []"))
+        self.says(2, "lab: node.p is of the wrong kind", 'line 24 (the node with identifier 12): p = "11"',
+                  "  `p` has to be the `id` of a neighbour: an integer, without quotes\n",
+                  text=GOOD.replace("id = 11", "id = 11\np = 12").replace("id = 12", 'id = 12\np = "11"'))
+        self.says(2, "lab: node.m is of the wrong kind", "line 24 (the node with identifier 12): m = 1", "  `m` has to be true or false, without quotes\n",
+                  text=GOOD.replace("id = 11", "id = 11\nm = true").replace("id = 12", "id = 12\nm = 1"))
+        self.says(2, "lab: link is of the wrong kind", "line 4: [12]]", "  Each link has to be a list of two integers", change=(" [12, 17]]", "\n  [12]]"))
+        self.says(2, "lab: teacher is of the wrong kind", "line 5: [[teacher]]", "below one line [teacher]\n", change=("[teacher]", "[[teacher]]"))
+        self.says(2, "lab: sessions is of the wrong kind", 'line 2: sessions = "4"', f"  `sessions` {integer}\n", change=("sessions = 4", 'sessions = "4"'))
+
+    def test_a_table_that_is_not_found_has_no_line(self) -> None:
+        """A key that isn't in the file at all has none. Neither has a wrong value if Python's reader can't read the file
+        and several tables have the key, and an element of `links` that isn't a list."""
+        for text, error in (("", "lab: events is missing"), ("", "lab: node.owner is missing"),
+                            ("[[node]]\nm = 1\n[[node]]\nm = \n", "lab: node.m is of the wrong kind"),
+                            ("links = [[1, 2], 3]\n", "lab: link is of the wrong kind")):
+            self.assertEqual(place_of_error(text, error), (None, ""), error)
+
     def test_errors_of_the_program_that_need_a_hint_have_one_and_others_have_none(self) -> None:
         """The other errors say by themselves what is wrong."""
         for error in ("lab: principal 2: bad name or key", "lab: node 0: owner and owners", "lab: node 1: identifier out of range",
                       "lab: node 1: identifier stands twice", "lab: principal 1: name stands twice", "lab: node 1: owner stands twice",
                       "lab: link 3: stands twice", "lab: too many nodes", "lab: events is out of its limits",
-                      "lab: sessions is out of its limits", "lab: student is out of its limits"):
+                      "lab: sessions is out of its limits", "lab: student is out of its limits", "lab: node 3: no such owner",
+                      "lab: link 1: no such node", "lab: node 1: p is not a neighbour", "lab: node.owner is missing",
+                      *(f"lab: {key} is of the wrong kind" for key in (
+                          "events", "sessions", "teacher", "teacher.name", "teacher.key", "student", "student.name", "student.key", "node", "node.id",
+                          "node.owner", "node.owners", "node.p", "node.m", "links", "link"))):
             self.assertNotEqual(hint_of(error), "", error)
-        for error in ("lab: no nodes", "lab: link 1: a loop", "lab: events is missing"):
+        for error in ("lab: no nodes", "lab: link 1: a loop", "lab: events is missing", "lab: node.id is missing"):
             self.assertEqual(hint_of(error), "", error)
 
     def test_a_missing_file_has_status_4(self) -> None:
