@@ -260,8 +260,8 @@ def joined(table: Path, others: list[Path]) -> dict[Key, Row]:
         for row in read_rows(file):
             first, where = found.setdefault(key(row), (row, file))
             if first != row:
-                raise Fault(f"{file}: the table {where} has different numbers for the same run; delete the wrong row there, or this one: "
-                            f"{line_of(row).strip()}", FAILED)
+                raise Fault(f"{file}: the table {where} has different numbers for the same run. Delete the row of this run in both tables, and type "
+                            f"the command that made {file} again: it measures the run anew. The row in {file}: {line_of(row).strip()}", FAILED)
     return {its: row for its, (row, _) in found.items()}
 
 

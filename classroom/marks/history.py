@@ -74,7 +74,7 @@ def add_words(words: argparse.ArgumentParser) -> None:
     form = words.add_mutually_exclusive_group()
     form.add_argument("--csv", action="store_true", help="print the lines as CSV, for a spreadsheet")
     form.add_argument("-o", "--output", metavar="FILE.html",
-                      help="make a page with the entries; each opens the player at its moment")
+                      help="make a page with the lines; each has a link that shows the network at its moment")
     words.set_defaults(work=history)
 
 

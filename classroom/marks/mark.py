@@ -139,7 +139,8 @@ def by_node(shared: dict[int, dict[str, Counter[str]]]) -> dict[str, dict[str, d
 
 def run_of_journal(lab_file: Path, journal: Path) -> Run:
     """Returns the run of the journal of a lab, with its tally and the verdicts on its records. Raises `Fault` if the
-    lab or the journal is refused, if the run is still going on, or if the program contradicts itself."""
+    lab or the journal is refused, if the journal grows between its two readings here, or if `tally` and `report` of
+    `mml` disagree on whether the network is stable. Also raises it as `record_verdicts` does."""
     try:
         told = tally.of(lab_file, journal)
     except Fault as fault:

@@ -149,7 +149,9 @@ def vouch(record: Path, into: Path, journal: bytes, is_whole: bool, lives: bool)
     try:
         copy_record(record, into, journal)
         if not has_lab_of(record.parent, into):
-            return Vouched(record, into, LAB, "this record was made with another lab than the file lab.toml of this run", is_whole)
+            what = ("this record was made with another lab than the file lab.toml of this run. If lab.toml was changed, undo the change: "
+                    "the record's file `lab` is the lab with which it was made")
+            return Vouched(record, into, LAB, what, is_whole)
     except Fault as fault:
         return Vouched(record, into, fault.status, str(fault), is_whole)
     answer = verify(into)

@@ -213,7 +213,7 @@ def run_typed(desk: Desk, line: str | None, hung: Callable[[], None]) -> str:
     if line == NOW or desk.lost and line.split() == ["end"]:
         return "end"
     if desk.lost:
-        desk.tell(f"not done, because the desk has no connection to the server now: {desk.lost}")
+        desk.tell(f"not done, because there is no connection to the server's desk now: {desk.lost}")
         return ""
     try:
         return "" if desk.command(line) else "end"

@@ -90,7 +90,7 @@ class Desk:
         except (Closed, Refused) as error:
             self.lost = str(error)
             return False
-        self.tell("the desk is connected to the server again")
+        self.tell("connected to the server's desk again")
         return True
 
     def use_connection(self, client: Client) -> None:
@@ -108,7 +108,7 @@ class Desk:
         `reconnect` makes another connection."""
         self.lost = str(error)
         self.client.hang_up()
-        self.tell(f"the desk has lost its connection to the server, and tries to connect again: {error}")
+        self.tell(f"the connection to the server's desk is lost; trying to connect again: {error}")
 
     def catch_up(self) -> None:
         """Counts the events that the journal has already, without a line for each. Prints the configuration from which

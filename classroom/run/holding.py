@@ -234,7 +234,7 @@ def hold(run: Running, it: server.Server) -> int | None:
         run.tell("another process now controls this run, so this one ends")
         return None
     except (Closed, Refused, Denied) as error:
-        run.tell(f"the desk can't be used, because it has no connection to the server: {error}")
+        run.tell(f"the desk can't be used, because no connection to it can be made: {error}")
         return give_up(it, run, LATE if isinstance(error, Over) else TICK)  # After `Over`, the server is about to end by itself.
     with contextlib.closing(DiskRoom(run.folder, it.process.number)) as room:
         why = attend(desk, it, run.until == "stable", run.typed, room, run.note_hung)
@@ -273,7 +273,7 @@ def end_run(it: server.Server, desk: Desk, why: str, run: Running) -> int | None
         if why != "died":
             desk.client.bye()
     except (Closed, Refused, Denied) as error:
-        tell(f"the desk has lost its connection to the server: {error}")
+        tell(f"the connection to the server's desk is lost: {error}")
     if not it.hosted and why != "died":
         it.stop()
     elif not wait_for_server(it, run):

@@ -39,7 +39,7 @@ def take_desk(it: Server, teacher: tuple[str, str], typed: Typed, tell: Callable
                 raise
             continue
         if is_told:
-            tell("the desk is now connected to the server")
+            tell("now connected to the server's desk")
         return client
 
 
@@ -54,7 +54,7 @@ def greet(it: Server, teacher: tuple[str, str]) -> Client:
 def reason_line(error: Closed | Refused) -> str:
     """Returns the line that says why the desk can't be taken, from the error with which its connection ended."""
     is_taken = isinstance(error, Refused) and error.word == "busy"
-    return "another program is connected to the desk" if is_taken else f"the desk can't connect to the server: {error}"
+    return "another program is connected to the desk" if is_taken else f"no connection to the server's desk can be made: {error}"
 
 
 def wait_for_end(typed: Typed, hung: Callable[[], None]) -> bool:

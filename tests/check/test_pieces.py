@@ -91,6 +91,9 @@ class Sharing(unittest.TestCase):
         self.assertEqual(minutes_of([[work], [Part("b", (), 40, 2, ALL, is_beside=True)]], 4), [4, 8])
 
     def test_the_time_for_some_crates_is_estimated_from_their_sizes(self) -> None:
+        """The estimates for the wrong bodies of each crate add up to the one for all. The proofs of `mml_host` include
+        those of all crates below it, so they take longer than those of `mml_ids`, which uses no other crate. An empty
+        list stands for all crates."""
         self.assertAlmostEqual(sum(wrong_of([it]).work for it in uses()), WRONG.work)
         low, high = (proofs_of([it]).work for it in ("mml_ids", "mml_host"))
         self.assertTrue(0 < low < high < proofs_of([]).work == PROOFS.work, (low, high))

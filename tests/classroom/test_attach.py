@@ -109,7 +109,7 @@ class Attach(Cycle):
         stop(server)
         self.addCleanup(self.end, server)
         going.process.send_signal(signal.SIGTERM)
-        going.until("^the desk has lost its connection to the server: no answer in ")
+        going.until("^the connection to the server's desk is lost: no answer in ")
         going.until(rf"^waiting for the end of the server \(process {server}\)\. Type `end` to stop waiting$")
         going.type("end")
         self.assertEqual(going.wait_for_end(), 4, going.lines)

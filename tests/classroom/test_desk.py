@@ -207,10 +207,10 @@ class Late(Cycle):
         self.addCleanup(patient.stop)
         holding.start()
         typed.put("fault 1 2 true")
-        lost = "the desk has lost its connection to the server, and tries to connect again: no answer in 0.5 seconds"
+        lost = "the connection to the server's desk is lost; trying to connect again: no answer in 0.5 seconds"
         self.until(lambda: any(line.startswith(lost) for line in lines))
         os.kill(it.process.number, signal.SIGCONT)
-        self.until(lambda: "the desk is connected to the server again" in lines)
+        self.until(lambda: "connected to the server's desk again" in lines)
         typed.put("link 1 3")
         self.until(lambda: any("the link between 1 and 3" in line for line in lines))
         self.assertTrue(any("configuration 1: fault at node 1: p 2, m true" in line for line in lines), lines)
@@ -432,7 +432,7 @@ class NewKey(InRoom):
         for error in (Refused("busy"), Closed("no answer in 30 seconds")):
             why, lines = self.end_after(NOW, error)
             self.assertEqual(why, "end")
-            self.assertIn(f"the desk has lost its connection to the server, and tries to connect again: {error}", lines)
+            self.assertIn(f"the connection to the server's desk is lost; trying to connect again: {error}", lines)
 
 
 class NotDone(Cycle):

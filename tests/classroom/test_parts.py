@@ -58,7 +58,7 @@ class Differing(InRoom):
         self.assertEqual([*experiment.joined(named["all.csv"], [named["same.csv"], named["more.csv"]]).values()], [row, replace(row, seed=2)])
         for table, others, where in (("all.csv", ["same.csv", "wrong.csv"], "all.csv"), ("none.csv", ["same.csv", "wrong.csv"], "same.csv"),
                                      ("all.csv", ["more.csv", "wrong-2.csv"], "more.csv")):
-            told = f"{named[others[-1]]}: the table {named[where]} has different numbers for the same run; "
+            told = f"{named[others[-1]]}: the table {named[where]} has different numbers for the same run. "
             with self.subTest(table=table, others=others), self.assertRaisesRegex(Fault, f"^{re.escape(told)}"):
                 experiment.joined(named.get(table, self.room / table), [named[name] for name in others])
 
@@ -113,7 +113,7 @@ class Experiments(InRoom):
         other = self.file("other.csv", "\n".join([text[0], ",".join(row)]) + "\n")
         said = call_class(*RUNS, "--merge", *files, other, "--csv", self.room / "differ.csv")
         self.assertEqual((said.returncode, said.stdout), (4, ""))
-        self.assertIn(f"{other}: the table {files[0]} has different numbers for the same run; ", said.stderr)
+        self.assertIn(f"{other}: the table {files[0]} has different numbers for the same run. ", said.stderr)
         self.assertEqual(call_class(*RUNS, "--merge", self.room / "none.csv", "--csv", self.room / "x.csv").returncode, 4)
 
     @unittest.skipUnless(shutil.which("parallel"), "not tried: parallel")

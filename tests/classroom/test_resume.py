@@ -135,7 +135,9 @@ class Resume(Cycle):
                 again = Going(self, None, "run", "--resume", going.folder)
                 self.assertEqual((again.port, again.folder), (going.port, going.folder))
                 self.assertTrue(any(re.match(r"the class continues at configuration \d+; events: \d+ of 1000$", line) for line in again.lines), again.lines)
-                for name in KEYS:  # Gus starts a bot, and a student whose bot hadn't greeted starts another one.
+                # A bot that hadn't greeted before the kill has ended, and it isn't known which ones had. So each student
+                # starts one: gus the first one, and the others perhaps a second one, which does no harm.
+                for name in KEYS:
                     self.bot(again, name)
                 self.assertEqual(again.wait_for_end(), 0, again.lines)
                 self.assertIn("the network is stable, so the run is ended", again.lines)

@@ -167,7 +167,7 @@ class Seated(Cycle):
         going, record = self.killed()
         again, tess = self.attached(going, record)
         tess.hang_up()
-        again.until("^the desk is now connected to the server$")
+        again.until("^now connected to the server's desk$")
         again.until("^commands: ")
         self.assertEqual(sum("trying to connect again" in line for line in again.lines), 1, again.lines)
         self.check_goes_on(again, 1)
@@ -180,7 +180,7 @@ class Seated(Cycle):
         again.process.send_signal(signal.SIGTERM)
         self.assertEqual(again.wait_for_end(), 4, again.lines)
         self.assertEqual(again.lines[-2:], [
-            "the desk can't be used, because it has no connection to the server: busy: all seats are taken; try again later",
+            "the desk can't be used, because no connection to it can be made: busy: all seats are taken; try again later",
             f"the server (process {record.server.number}) keeps running, but nobody controls it. To control it again, type: {CLASS} attach {going.folder}",
         ])
         self.assertTrue(record.server.lives())

@@ -70,7 +70,7 @@ class Lines(unittest.TestCase):
     def test_lines_that_say_why_a_network_is_down_are_recognised(self) -> None:
         """Such lines of a network's run match the pattern DIED. The alarm about the network has the line."""
         for line in ("the server has ended, by the signal SIGKILL", "nothing more is granted: the journal's file was changed. Undo it",
-                     "the desk can't be used, because it has no connection to the server: no answer in 30 seconds"):
+                     "the desk can't be used, because no connection to it can be made: no answer in 30 seconds"):
             self.assertIsNotNone(DIED.fullmatch(line), line)
 
     def test_the_name_of_a_class_is_what_the_names_of_its_labs_have_in_common(self) -> None:

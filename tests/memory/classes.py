@@ -32,7 +32,7 @@ ASKED_LATER = [
     (TEACHER, hello("tess")), (STUDENT, hello("ana")), (TEACHER, CLOSE), (STUDENT, look("ana")), (STUDENT, seduction(2)), (TEACHER, CLOSE),
     (TEACHER, REPORT),
 ]
-FEW_THREADS = Ended(5, b"", b"host: too few threads may be started\n")
+FEW_THREADS = Ended(5, b"", b"host: not enough threads can be started\n")
 AT_ONCE = 8  # the number of runs at the same time, since they mostly wait
 TRIES = 4  # tries to send a line: one may be refused, and some more are lost if the host is ending
 MORE = 12  # requests for memory by which a run may exceed the first one, since threads make some of them

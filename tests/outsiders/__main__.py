@@ -115,10 +115,10 @@ def too_few_files_or_threads(room: Path) -> None:
         for path, mode in ((room, 0o755), (lab, 0o644), (folder, 0o777), (program, 0o755), (journal, 0o666)):
             if path.exists():
                 path.chmod(mode)
-        for limit, line in (("nofile=7", b"files may be open"), ("nproc=1", b"threads may be started")):
+        for limit, line in (("nofile=7", b"files can be opened"), ("nproc=1", b"threads can be started")):
             word = "host" if begins else "resume"
             words: list[str | Path] = [*NOBODY, "prlimit", f"--{limit}", program, word, lab, "0", "0", journal]
-            if (said := run_to_end(words)) != Ended(5, b"", b"host: too few " + line + b"\n"):
+            if (said := run_to_end(words)) != Ended(5, b"", b"host: not enough " + line + b"\n"):
                 fail(f"outsiders: with {limit} a host says {said}")
             if [*folder.iterdir()] != ([] if begins else [journal]):
                 fail(f"outsiders: with {limit} a host makes a file")

@@ -36,10 +36,10 @@ pub enum Fault {
     #[error("host: no place for a window")]
     Place,
     /// The system allows the program too few open files for a class.
-    #[error("host: too few files may be open")]
+    #[error("host: not enough files can be opened")]
     FewFiles,
     /// The system allows the program too few threads for a class.
-    #[error("host: too few threads may be started")]
+    #[error("host: not enough threads can be started")]
     FewThreads,
     /// The copy of the lab beside the journal is of another lab.
     #[error("resume: another lab")]

@@ -38,9 +38,9 @@ pub trait Budget {
     fn is_known(&self) -> bool
         ensures { result ≡ known self.now };
 
-    /// Returns whether the text of an entry, of this many `bytes`, may be written. If so, charges it to the account of
-    /// whoever is known, or to the common account of those who aren't known. Returns `Last` only for a hello, and once
-    /// for each account. So for each account that exceeds its budget, the record says that recording paused.
+    /// Returns whether the text of an entry, of this many `bytes`, may be written. If it returns `Taken`, it charges the
+    /// text to the account of whoever is known, or to the common account of those who aren't known. Otherwise it charges
+    /// nothing. It returns `Last` only for a granted hello, and at most once for each account.
     fn takes_entry(&mut self, bytes: u64) -> Taking
         ensures known { known self.new ≡ known self.old }
         ensures greeted { greeted self.new ≡ greeted self.old };
