@@ -18,6 +18,7 @@ from pathlib import Path
 from types import TracebackType
 from typing import Optional
 
+from tests.common.connections import open_connection
 from tests.common.lines import BUSY, BYE, BID
 from tests.common.preload import LIMIT, TOP, Ended, built_in, fail, good
 
@@ -128,8 +129,9 @@ class Caller:
     """A connection that sends lines and reads replies."""
 
     def __init__(self, port: int, source: str = "127.0.0.1") -> None:
-        """Connects to a port from the address `source` of this machine."""
-        self.socket = socket.create_connection(("127.0.0.1", port), LIMIT, (source, 0))
+        """Connects to a port from the address `source` of this machine. Raises `ConnectionError` if the host doesn't
+        listen there."""
+        self.socket = open_connection(port, LIMIT, source)
         self.replies = self.socket.makefile("rb")
 
     def send(self, content: bytes) -> None:

@@ -16,6 +16,7 @@ from pathlib import Path
 from typing import NoReturn, Optional
 
 from model import Ended as Ended
+from tests.common.connections import open_connection
 from tests.common.lines import refusal_of
 
 HERE = Path(__file__).resolve().parent
@@ -211,7 +212,7 @@ class Client:
         """Connects to a port. If no server listens there, each reply is empty."""
         self.open: Optional[socket.socket] = None
         try:
-            self.open = socket.create_connection(("127.0.0.1", port), timeout=LIMIT)
+            self.open = open_connection(port, LIMIT)
             self.replies = self.open.makefile("rb")
         except ConnectionError:
             pass

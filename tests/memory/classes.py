@@ -17,7 +17,7 @@ from typing import Optional
 
 from tests.common.hosting import HOST, Caller, Host, lab_of
 from tests.common.lines import BID, BUSY, BYE, CLOSE, OVER, REPORT, fault_at, hello, look, refusal_of, seduction
-from tests.common.preload import Ended, Preloaded, fail, good
+from tests.common.preload import Ended, Preloaded, fail, good, held_port
 from tests.memory.refusing import OUT_OF_MEMORY, done_line
 
 # The persons of a class, by the numbers of their connections in a script: the teacher is at the desk, and a student at
@@ -165,7 +165,11 @@ class Class:
         library = copy.copy(library)
         library.file = room / "counts"
         variables = library.variables({"REFUSE": str(nth)})
-        with Host(self.lab, 0, 0, journal, record, word=self.word, variables=variables) as host:
+        # While the ports are held, the system gives them to no other run, nor to a connection after the host's end.
+        with (
+            held_port() as port, held_port() as desk,
+            Host(self.lab, *(it.getsockname()[1] for it in (port, desk)), journal, record, word=self.word, variables=variables) as host,
+        ):
             if not host.listens:
                 ended = host.end(LAST)
                 is_same = (journal.read_bytes() if journal.exists() else b"") == before

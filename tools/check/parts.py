@@ -95,7 +95,7 @@ QUICK = [
     Part("record", module("record"), 0.4, 0.5, 1, BUILT),
     Part("wrong-tests", cases(*(f"wrong.test_{it}" for it in ("wrong", "beside", "saved", "kept", "plants", "drawing"))), 0.6, 0.6, 1, ("rt",)),
     Part("build", cases("build.test_build", "build.test_class"), 0.4, 0.9, 0.5, ("git",)),
-    Part("check", cases(*(f"check.test_{it}" for it in ("check", "pieces", "imports", "chain", "model", "arguments"))), 0.2, 0.8, 0.5),
+    Part("check", cases(*(f"check.test_{it}" for it in ("check", "pieces", "imports", "chain", "model", "arguments", "connections"))), 0.2, 0.8, 0.5),
     Part("memory", module("memory", "uses"), 0.2, 0.4, 0.5, (*BUILT, "rt")),
     Part("memory-hosts", module("memory", "hosts"), 0.2, 0.3, 0.5, (*BUILT, "rt")),
     Part("tally", module("tally", "20"), 0.1, 0.2, 0.5, BUILT),
