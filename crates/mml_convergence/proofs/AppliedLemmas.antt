@@ -1,5 +1,5 @@
 -- A number that falls in each step by at least the number of moves is a bound on the moves of a run.
-use Rattle.std.proofs.Common.{◌≡◌, ℕ, ◌+◌, ◌*◌, ◌≤◌, true, cond, List, [], ◌∷◌, length, Option, None, is_some, ap, ◌∙◌, arith}
+use Rattle.std.proofs.Common.{◌≡◌, ℕ, ◌+◌, ◌*◌, ◌≤◌, min, true, cond, List, [], ◌∷◌, length, Option, None, is_some, ap, ◌∙◌, arith}
 use Rattle.std.{specs.List.list_all, proofs.lemmas.Bool.false≢true, proofs.lemmas.Bool.Decides.nat_tests, proofs.lemmas.List.get_or_default, proofs.lemmas.List.Folds.Any-from_list_any}
 use Rattle.mml_ids.specs.Search.{count_below}
 use Rattle.mml_rules.specs.{declared.rule.Rule.Rule, Configuration.Configuration, Configuration.IsLawful, Rules.step, Rules.AllHold, Network.Network, Network.configuration_of, Network.IsNetwork}
@@ -7,8 +7,8 @@ use Rattle.mml_lab.specs.{Labs.link_count, Rosters.RosterValue}
 use Rattle.mml_board.specs.{declared.event.Event.Event, Events.is_possible, Events.is_any_chosen, Events.after, Events.chosen_count, Runs.is_legal_list}
 use Rattle.mml_board.specs.World.{World, size, configuration, chosen_at, IsWorld}
 use Rattle.mml_board.proofs.{WorldLemmas.closed-step, WorldLemmas.after-world, ClausesLemmas.fit, ClausesLemmas.legal_possible}
-use Rattle.mml_convergence.specs.{Runs.is_of_step, Potential.whole_potential, Moves.moves, Moves.applied_by, Moves.applied_over, Moves.is_close, Moves.count_closes}
-use Rattle.mml_convergence.proofs.{SumsLemmas.count_some, WholePotentialLemmas.whole_fell, WholePotentialLemmas.whole_most}
+use Rattle.mml_convergence.specs.{Runs.is_of_step, Potential.whole_potential, Courtships.most_courtships, Courtships.courting_potential, Moves.moves, Moves.applied_by, Moves.applied_over, Moves.is_close, Moves.count_closes}
+use Rattle.mml_convergence.proofs.{SumsLemmas.count_some, WholePotentialLemmas.whole_fell, WholePotentialLemmas.whole_most, WholeLemmas.courting_fell, WholeLemmas.courting_most}
 use Rattle.mml_board.specs.declared.event.Event.TheVariants as event
 
 -- P falls in each step by at least the number of moves
@@ -47,6 +47,14 @@ network_most n k = whole_most (configuration_of n) k.lawful
 pub moves_bounded : (r : RosterValue) (w : World) (es : List Event) → IsWorld w → is_legal_list r w es ≡ true → list_all is_of_step es ≡ true
     → applied_over w es ≤ 2 * link_count w.network + 3 * size w
 moves_bounded r w es k legal steps = omega (arith, moves_paid whole_potential whole_fell r w es k legal steps, network_most w.network k.network)
+
+-- grants, releases and closes apply at most 3n + 2 min(L, n²/4) moves to a network of n nodes and L links, with n²/4
+-- rounded down
+pub moves_few : (r : RosterValue) (w : World) (es : List Event) → IsWorld w → is_legal_list r w es ≡ true → list_all is_of_step es ≡ true
+    → applied_over w es ≤ 3 * size w + 2 * min (link_count w.network) (most_courtships (size w))
+moves_few r w es k legal steps =
+    let courting = moves_paid courting_potential courting_fell r w es k legal steps in
+    grind (arith, nat_tests, courting, moves_bounded, courting_most)
 
 -- ---- each close applies a move
 

@@ -1,86 +1,88 @@
--- A run from a world in which m is true at each node. One node after another updates, and then drops its pointer if it
--- has one.
-use Rattle.std.proofs.Common.{◌≡◌, ℕ, zero, suc, ◌+◌, ◌<◌, ◌⊎◌, Bool, true, false, cond, not, Option, None, Some, is_some, sym, refl, ap, ◌∙◌, subst, arith}
-use Rattle.std.proofs.lemmas.Bool.{cases_lt, cases_eq, Decides.nat_tests}
-use Rattle.mml_rules.specs.{declared.rule.Rule.Rule, Configuration.Configuration, Configuration.IsLawful, Configuration.holds, Rules.is_married}
-use Rattle.mml_rules.proofs.RulesLemmas.{married-at, married-null}
+-- A run from a world in which each node has a pointer and m is true. One node after another updates, and then drops its
+-- pointer.
+use Rattle.std.proofs.Common.{◌≡◌, ℕ, zero, suc, ◌+◌, ◌*◌, ◌<◌, ◌≤◌, Bool, true, false, cond, nat_lt, Option, Some, List, length, sym, refl, ap, ◌∙◌, subst, arith, map}
+use Rattle.std.proofs.lemmas.{Bool.cases_lt, Bool.Decides.nat_tests, List.FromFn.get_or-map-range_with_len, List.FromFn.length-map-range_with_len}
+use Rattle.std.specs.List.{list_all, range_with_len}
+use Rattle.mml_ids.specs.{declared.TheConstants.MAX_NODES, Sets.those_below}
+use Rattle.mml_rules.specs.{declared.regs.Regs.Regs, declared.rule.Rule.Rule, Configuration.IsLawful, Configuration.holds, Network.no_regs, Network.registers_at}
+use Rattle.mml_rules.proofs.RulesLemmas.{married-at}
 use Rattle.mml_lab.specs.Rosters.{RosterValue, owns}
-use Rattle.mml_board.specs.World.{World, configuration, IsWorld}
-use Rattle.mml_convergence.proofs.MoveLemmas.{IsQuiet, IsMoved, Holds, is, stays, turns, Goes, single}
-use Rattle.mml_convergence.proofs.IdleLemmas.{may_update, may_abandon}
+use Rattle.mml_board.specs.{declared.event.Event.Event, World.World, World.size, World.configuration, World.IsWorld, World.opening_of, Runs.is_legal_list}
+use Rattle.mml_board.proofs.WorldLemmas.{none_at}
+use Rattle.mml_convergence.specs.{Moves.applied_over, Rest.is_grant_or_close}
+use Rattle.mml_convergence.proofs.{MoveLemmas.Onward, MoveLemmas.alike, MoveLemmas.play, IdleLemmas.may_update, IdleLemmas.may_abandon}
 use Rattle.mml_lab.specs.declared.who.Who.TheVariants as who
+use Rattle.mml_convergence.proofs.OpeningLemmas as opening
 
--- the number of moves of the nodes from i on (there are `left` of them), plus a
-abbrev pub cleared : (f : ℕ → Option ℕ) (left i a : ℕ) → ℕ
-cleared f zero i a = a
-cleared f (suc left) i a = suc (cond (is_some (f i)) 1 0 + cleared f left (suc i) a)
+-- some legal list of grants and closes applies a moves
+abbrev pub Applies : RosterValue → World → ℕ → Type 0
+Applies r w a = (es : List Event) × (is_legal_list r w es ≡ true) × (list_all is_grant_or_close es ≡ true) × (applied_over w es ≡ a)
 
--- at first, node i has the pointer `f i`, which is null or leads to another node that doesn't point back; `Shape` is a
--- fact about the network that each step keeps
-module _ (n : ℕ) (f : ℕ → Option ℕ) (Shape : Configuration → Type 0) (sized : (c : Configuration) → Shape c → (c.size ≡ n) × IsLawful c)
-    (shaped : (c d : Configuration) (x : ℕ) (rule : Rule) → Shape c → IsMoved c d (is x) rule → Shape d)
-    (points : (i j : ℕ) → i < n → f i ≡ Some j → (j < n) × (i ≡ j → ⊥) × (holds (f j) i ≡ false)) where
-  -- the nodes below i have a null pointer and m false, node i has the registers p and m, and the nodes above i are as
-  -- at first
-  pub record Cleared (i : ℕ) (p : Option ℕ) (m : Bool) (c : Configuration) : Type 0 where
-    pub shape : Shape c
-    pub done : (j : ℕ) → j < i → Holds c j None false
-    pub here : i < n → Holds c i p m
-    pub todo : (j : ℕ) → i < j → j < n → Holds c j (f j) true
+-- the registers after the nodes below i have made their moves; at first, node j has the pointer `first j`, and m is true
+abbrev pub cleared : (ℕ → Option ℕ) → ℕ → ℕ → Regs
+cleared first i j = cond (nat_lt j i) no_regs (record { p = first j; m = true })
 
-  changed : (i : ℕ) (p : Option ℕ) (m : Bool) (p2 : Option ℕ) (m2 : Bool) (c d : Configuration) (rule : Rule) → i < n → Cleared i p m c
-      → IsMoved c d (is i) rule → Holds d i p2 m2 → Cleared i p2 m2 d
-  changed i p m p2 m2 c d rule lt k e to = record {
-    shape = shaped c d i rule k.shape e;
-    done = grind (arith, nat_tests, stays);
-    here = λ _. to;
-    todo = λ j more j_in. stays n i c d rule (sized c k.shape).0 e j (f j) true j_in (λ same. omega (arith, same, more)) (k.todo j more j_in);
-  }
+-- a world of n nodes with links that a test defines, and with these pointers
+module _ (n : ℕ) (test : ℕ → ℕ → Bool) (first : ℕ → Option ℕ) where
+  abbrev opened : World
+  opened = opening_of (record {
+    neighbours = map (λ i. those_below n (test i)) (range_with_len 0 n);
+    registers = map (λ i. record { p = first i; m = true }) (range_with_len 0 n);
+  })
 
-  -- if node i has made its moves, it is the turn of the next node
-  advance : (i : ℕ) (c : Configuration) → i < n → Cleared i None false c → Cleared (suc i) (f (suc i)) true c
-  advance i c lt k = grind (arith, nat_tests, cases_eq, Holds)
+  unfoldable pub links : ℕ → ℕ → Bool
+  links = (configuration opened).linked
 
-  -- the node at which i points at first doesn't point back, and has m true or is lower
-  unanswered : (i j : ℕ) (p : Option ℕ) (m : Bool) (c : Configuration) → i < n → f i ≡ Some j → Cleared i p m c → (holds (c.p j) i ≡ false) × ((c.m j ≡ true) ⊎ (j < i))
-  unanswered i j p m c lt e k = grind (arith, nat_tests, points i j lt e, cases_lt)
+  -- the world has n nodes
+  pub sized : size opened ≡ n
+  sized = length-map-range_with_len (λ i. record { p = first i; m = true }) 0 n
 
-  free_at_first : (i : ℕ) (c : Configuration) → i < n → Cleared i (f i) true c → is_married c i ≡ false
-  free_at_first i c lt k = go (f i) refl
-    where
-      go : (o : Option ℕ) → f i ≡ o → is_married c i ≡ false
-      go None e = married-null c i ((k.here lt).0 ∙ e)
-      go (Some j) e = married-at c i j (sized c k.shape).1 ((k.here lt).0 ∙ e) ∙ (unanswered i j (f i) true c lt e k).0
+  registers_are : (i : ℕ) → i < n → registers_at opened.network.registers i ≡ record { p = first i; m = true }
+  registers_are i lt = get_or-map-range_with_len (λ i. record { p = first i; m = true }) 0 n i i no_regs lt (omega arith)
 
-  module _ (r : RosterValue) (s : ℕ) (owned : (i : ℕ) → i < n → owns r (who.Student s) i ≡ true) where
-    pub clear : (left i a : ℕ) → i + left ≡ n → (w : World) → IsWorld w → IsQuiet w → Cleared i (f i) true (configuration w)
-        → ((u : World) → IsWorld u → IsQuiet u → Cleared n (f n) true (configuration u) → Goes a r u) → Goes (cleared f left i a) r w
-    clear zero i a e w world quiet at next = grind (arith, nat_tests)
-    clear (suc left) i a e w world quiet at next =
-        let lt : i < n = omega (arith, e) in
-        let c = configuration w in
-        let x = sized c at.shape in
-        single n r s owned i (cond (is_some (f i)) 1 0 + cleared f left (suc i) a) Rule.Update w world quiet x.0 lt
-        (may_update c x.1 i ((at.here lt).1 ∙ sym (ap not (free_at_first i c lt at)))) (λ u ku qu moved.
-        let y = turns n i c (configuration u) Rule.Update x.0 moved lt in
-        after (clear left (suc i) a (omega (arith, e))) lt (f i) refl u ku qu
-        (changed i (f i) true (f i) false c (configuration u) Rule.Update lt at moved (y.0 ∙ (at.here lt).0, y.1 ∙ free_at_first i c lt at)))
-      where
-        after : ((v : World) → IsWorld v → IsQuiet v → Cleared (suc i) (f (suc i)) true (configuration v)
-            → ((u : World) → IsWorld u → IsQuiet u → Cleared n (f n) true (configuration u) → Goes a r u) → Goes (cleared f left (suc i) a) r v)
-            → i < n → (o : Option ℕ) → f i ≡ o → (u : World) → IsWorld u → IsQuiet u → Cleared i (f i) false (configuration u)
-            → Goes (cond (is_some o) 1 0 + cleared f left (suc i) a) r u
-        after rest lt None f_i u ku qu k =
-            let sum : cleared f left (suc i) a ≡ 0 + cleared f left (suc i) a = omega arith in
-            subst (λ z. Goes z r u) sum (rest u ku qu (advance i (configuration u) lt (subst (λ o. Cleared i o false (configuration u)) f_i k)) next)
-        after rest lt (Some j) f_i u ku qu k =
-            let d = configuration u in
-            let x = sized d k.shape in
-            let y = unanswered i j (f i) false d lt f_i k in
-            let sum : suc (cleared f left (suc i) a) ≡ 1 + cleared f left (suc i) a = omega arith in
-            subst (λ z. Goes z r u) sum
-            (single n r s owned i (cleared f left (suc i) a) Rule.Abandonment u ku qu x.0 lt
-            (may_abandon d x.1 i j ((k.here lt).0 ∙ f_i) y.0 (k.here lt).1 y.1) (λ v kv qv moved.
-            let z = turns n i d (configuration v) Rule.Abandonment x.0 moved lt in
-            rest v kv qv (advance i (configuration v) lt
-            (changed i (f i) false None false d (configuration v) Rule.Abandonment lt k moved (z.0, z.1 ∙ (k.here lt).1))) next))
+  -- two nodes are linked if the test holds of them
+  pub linked-from : (i j : ℕ) → i < n → j < n → test i j ≡ true → links i j ≡ true
+  unfolding links
+  linked-from = opening.linked-from n test opened.network.registers sized
+
+  module _ (turns : (i j : ℕ) → test i j ≡ true → test j i ≡ true) (loops : (i : ℕ) → test i i ≡ true → ⊥)
+      (points : (i j : ℕ) → i < n → first i ≡ Some j → (j < n) × (test i j ≡ true)) where
+    -- the configuration and the world are lawful if links go both ways and join different nodes, and each node points at
+    -- a node linked to it
+    pub lawful : IsLawful (configuration opened)
+    lawful = opening.first_lawful n test opened.network.registers sized turns loops
+        (λ i j lt e. points i j lt (sym (ap (λ (g : Regs). g.p) (registers_are i lt)) ∙ e))
+
+    pub is_world : n ≤ MAX_NODES → IsWorld opened
+    is_world few = opening.first_world n test opened.network.registers sized lawful few
+
+    module _ (r : RosterValue) (s : ℕ) (owned : (i : ℕ) → i < n → owns r (who.Student s) i ≡ true) (z : ℕ) (z_in : z ≤ n)
+        (vain : (i : ℕ) → i < z → (j : ℕ) × (first i ≡ Some j) × (j < n) × (i ≡ j → ⊥) × (holds (first j) i ≡ false)) where
+      turn : (i j a : ℕ) → i < n → first i ≡ Some j → j < n → (i ≡ j → ⊥) → holds (first j) i ≡ false → Onward n links r s owned a (cleared first (suc i))
+          → Onward n links r s owned (suc (suc a)) (cleared first i)
+      turn i j a lt e j_in other back next =
+          play n links r s owned _ i Rule.Update _ (record { p = first i; m = false }) lt
+          (λ c k. grind (arith, nat_tests, may_update, married-at c i j k.lawful, k.p i lt, k.p j j_in, k.m i lt))
+          (play n links r s owned _ i Rule.Abandonment _ no_regs lt
+          (λ c k. grind (arith, nat_tests, may_abandon, cases_lt, k.p i lt, k.p j j_in, k.m i lt, k.m j j_in))
+          (alike n links r s owned _ _ (cleared first (suc i)) (grind (arith, nat_tests)) next))
+
+      clear : (left i a b : ℕ) → i + left ≡ z → 2 * left + a ≡ b → Onward n links r s owned a (cleared first z) → Onward n links r s owned b (cleared first i)
+      clear zero i a b e sum next =
+          let same : z ≡ i = omega (arith, e) in
+          let few : a ≡ b = omega (arith, sum) in
+          subst (λ x. Onward n links r s owned b (cleared first x)) same (subst (λ x. Onward n links r s owned x (cleared first z)) few next)
+      clear (suc left) i a b e sum next =
+          let x = vain i (omega (arith, e)) in
+          let more : suc (suc (2 * left + a)) ≡ b = omega (arith, sum) in
+          subst (λ y. Onward n links r s owned y (cleared first i)) more
+          (turn i x.0 _ (omega (arith, e, z_in)) x.1 x.2 x.3 x.4 (clear left (suc i) a _ (omega (arith, e)) refl next))
+
+      -- if a run of a moves leads on after the nodes below z have updated and dropped their pointers, some list applies
+      -- 2 * z + a moves
+      pub clears : n ≤ MAX_NODES → (a b : ℕ) → 2 * z + a ≡ b → Onward n links r s owned a (cleared first z) → Applies r opened b
+      unfolding links
+      clears few a b sum next =
+          let run = clear z 0 a b (omega arith) sum next opened (is_world few) (none_at (length opened.network.registers))
+          (grind (arith, nat_tests, registers_are, sized, lawful)) in
+          (run.events, run.legal, run.forward, run.ends)

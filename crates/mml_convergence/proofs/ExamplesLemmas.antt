@@ -1,11 +1,11 @@
 -- The bound is reached: on the triangle with a tail a legal list applies 20 moves.
-use Rattle.std.proofs.Common.{◌≡◌, ◌==◌, ℕ, zero, suc, ◌+◌, ◌-◌, ◌*◌, ◌<◌, nat_lt, Bool, true, false, ◌&&◌, ◌||◌, Option, None, Some, is_some, is_none, List, [], ◌∷◌, map, length, set, replicate, sym}
+use Rattle.std.proofs.Common.{◌≡◌, ◌==◌, ℕ, zero, suc, ◌-◌, ◌<◌, nat_lt, Bool, true, false, ◌&&◌, ◌||◌, Option, None, Some, is_some, is_none, List, [], ◌∷◌, map, length, set, replicate, sym}
 use Rattle.std.proofs.Common.{refl, ap, ◌∙◌, subst, arith, rules}
 use Rattle.std.specs.{Prelude.nat_le, List.list_any, List.range_with_len, Ordering.nat_cmp}
-use Rattle.std.proofs.lemmas.Bool.{and_parts, and_from, both_ways, eqb-true, ltb-true, leb-true, false≢true, Decides.nat_tests}
+use Rattle.std.proofs.lemmas.Bool.{and_parts, and_from, both_ways, eqb-true, leb-true, false≢true, Decides.nat_tests}
 use Rattle.mml_ids.specs.Search.{count_below}
-use Rattle.mml_rules.specs.{declared.regs.Regs.Regs, declared.rule.Rule.Rule, Configuration.Configuration, Rules.is_married, Rules.has_suitor, Rules.greatest_candidate, Rules.guard, Rules.moved}
-use Rattle.mml_rules.specs.Network.{Network, neighbours_at, registers_at, configuration_of, IsNetwork, with_link}
+use Rattle.mml_rules.specs.{declared.regs.Regs.Regs, declared.rule.Rule.Rule, Configuration.Configuration, Configuration.IsLawful, Rules.is_married, Rules.has_suitor, Rules.greatest_candidate, Rules.guard, Rules.moved}
+use Rattle.mml_rules.specs.Network.{neighbours_at, registers_at, configuration_of, IsNetwork}
 use Rattle.mml_rules.proofs.NetworkLemmas.{with_link-lawful, linked-with_link}
 use Rattle.mml_lab.specs.{Labs.links_below, Labs.link_count, Rosters.RosterValue, Rosters.IsRoster, Rosters.owns}
 use Rattle.mml_board.specs.{declared.event.Event.Event, Events.moved_registers, Events.chosen_count, Events.after, Runs.is_legal_list}
@@ -50,19 +50,18 @@ sound r w [] n owned t = (refl, sym (eqb-true n 0 t))
 sound r w (event.Grant s i rule ∷ es) n owned t =
     let x = and_parts (s == 0) _ t in
     let y = and_parts (nat_lt i (size w) && (is_none (chosen_at w.chosen i) && guard (configuration w) i rule)) _ x.1 in
-    let z = and_parts (nat_lt i (size w)) (is_none (chosen_at w.chosen i) && guard (configuration w) i rule) y.0 in
-    let free = and_parts (is_none (chosen_at w.chosen i)) (guard (configuration w) i rule) z.1 in
-    let there = ltb-true i (size w) z.0 in
-    let owner : owns r (who.Student s) i ≡ true = ap (λ k. owns r (who.Student k) i) (eqb-true s 0 x.0) ∙ owned i there in
-    let possible = grant_possible w s i rule there (grind (arith, nat_tests, false≢true, chosen_at w.chosen i)) free.1 in
-    let rest = sound r (after w (event.Grant s i rule)) es n (λ j lt. owned j (omega (arith, size-after w (event.Grant s i rule), lt))) y.1 in
+    let may : (s ≡ 0) × (i < size w) × (chosen_at w.chosen i ≡ None) × (guard (configuration w) i rule ≡ true) =
+    grind (arith, nat_tests, chosen_at w.chosen i) in
+    let owner : owns r (who.Student s) i ≡ true = ap (λ k. owns r (who.Student k) i) may.0 ∙ owned i may.1 in
+    let possible = grant_possible w s i rule may.1 may.2 may.3 in
+    let rest = sound r (after w (event.Grant s i rule)) es n owned y.1 in
     let last = rest.1 in
     (and_from _ _ (owned_legal r w (event.Grant s i rule) owner possible) rest.0, omega (arith, last))
 sound r w (event.Close ∷ es) n owned t =
     let x = and_parts (list_any is_some w.chosen) _ t in
     let y = and_parts (nat_le (chosen_among w.network.registers w.chosen) n) _ x.1 in
-    let rest =
-    sound r (after w event.Close) es (n - chosen_among w.network.registers w.chosen) (λ i lt. owned i (omega (arith, size-after w event.Close, lt))) y.1 in
+    let kept = size-after w event.Close in
+    let rest = sound r (after w event.Close) es (n - chosen_among w.network.registers w.chosen) (λ i lt. owned i (omega (arith, kept, lt))) y.1 in
     let le = leb-true (chosen_among w.network.registers w.chosen) n y.0 in
     let last = rest.1 in
     (and_from _ _ (owned_legal r w event.Close refl (close_possible w x.0)) rest.0, omega (arith, le, last))
@@ -83,15 +82,6 @@ none_linked i j = ap (λ s. sets.contains s j) (empty_row i) ∙ sets.contains-e
     empty_row : (i : ℕ) → neighbours_at unlinked.neighbours i ≡ sets.empty
     empty_row (suc (suc (suc (suc i)))) = refl
     empty_row _ = refl
-
-abbrev first : Network
-first = with_link unlinked 0 1
-
-abbrev second : Network
-second = with_link first 1 2
-
-abbrev third : Network
-third = with_link second 0 2
 
 linked_is : (i j : ℕ) → (configuration_of triangle).linked i j ≡ links i j
 linked_is i j = search (rules, linked-with_link, none_linked)
@@ -118,29 +108,20 @@ unlinked_network = record {
 triangle_network : IsNetwork triangle
 triangle_network =
     let a = with_link-lawful unlinked 0 1 unlinked_network (omega arith) (omega arith) (λ e. absurd (omega arith)) in
-    let b = with_link-lawful first 1 2 a (omega arith) (omega arith) (λ e. absurd (omega arith)) in
-    let c = with_link-lawful second 0 2 b (omega arith) (omega arith) (λ e. absurd (omega arith)) in
-    with_link-lawful third 2 3 c (omega arith) (omega arith) (λ e. absurd (omega arith))
+    let b = with_link-lawful _ 1 2 a (omega arith) (omega arith) (λ e. absurd (omega arith)) in
+    let c = with_link-lawful _ 0 2 b (omega arith) (omega arith) (λ e. absurd (omega arith)) in
+    with_link-lawful _ 2 3 c (omega arith) (omega arith) (λ e. absurd (omega arith))
 
-points_over : (i j : ℕ) → (registers_at triangle_world.network.registers i).p ≡ Some j → links i j ≡ true
-points_over i j e = grind (arith, nat_tests)
+points_over : (i j : ℕ) → (registers_at triangle_world.network.registers i).p ≡ Some j → (configuration triangle_world).linked i j ≡ true
+points_over i j e = linked_is i j ∙ (grind (arith, nat_tests))
 
 -- the triangle with a tail is a lawful world
 pub world : IsWorld triangle_world
-world = record {
-  network = record {
-    rows = triangle_network.rows;
-    few = triangle_network.few;
-    lawful = record {
-      in_range = triangle_network.lawful.in_range;
-      symmetric = triangle_network.lawful.symmetric;
-      no_loop = triangle_network.lawful.no_loop;
-      to_linked = λ i j e. linked_is i j ∙ points_over i j e;
-    };
-  };
-  choices = refl;
-  hold = hold-none 4 (configuration triangle_world);
-}
+world =
+    let t = triangle_network in
+    let lawful : IsLawful (configuration triangle_world) =
+    record { in_range = t.lawful.in_range; symmetric = t.lawful.symmetric; no_loop = t.lawful.no_loop; to_linked = points_over } in
+    record { network = record { rows = t.rows; few = t.few; lawful = lawful }; choices = refl; hold = hold-none 4 (configuration triangle_world) }
 
 -- the sum of the potentials of the triangle with a tail is 20
 pub triangle_potential : whole_potential (configuration triangle_world) ≡ 20
@@ -153,30 +134,16 @@ triangle_potential = ap (λ linked. whole_potential (shape linked triangle_world
 pub roster : IsRoster sole_owner
 roster = grind (arith, nat_tests)
 
-owns_all : (i : ℕ) → i < size triangle_world → owns sole_owner (who.Student 0) i ≡ true
-owns_all i lt = grind (arith, nat_tests)
-
 told : tells links triangle_world.network.registers triangle_world.chosen twenty_moves 20 ≡ true
 unfolding is_married has_suitor greatest_candidate
 told = refl
 
-run : (is_legal_list sole_owner triangle_world twenty_moves ≡ true) × (applied_over triangle_world twenty_moves ≡ 20)
-run = sound sole_owner triangle_world twenty_moves 20 owns_all
+-- the list of twenty moves is legal on the triangle with a tail, and its closes apply 20 moves
+pub run : (is_legal_list sole_owner triangle_world twenty_moves ≡ true) × (applied_over triangle_world twenty_moves ≡ 20)
+run = sound sole_owner triangle_world twenty_moves 20 (grind (arith, nat_tests))
     (subst (λ linked. tells linked triangle_world.network.registers triangle_world.chosen twenty_moves 20 ≡ true) (sym same_links) told)
-
--- the list of twenty moves is legal on the triangle with a tail
-pub legal : is_legal_list sole_owner triangle_world twenty_moves ≡ true
-legal = run.0
-
--- the closes of `twenty_moves` apply 20 moves
-pub applied : applied_over triangle_world twenty_moves ≡ 20
-applied = run.1
 
 -- the triangle with a tail has four links
 pub four : link_count triangle_world.network ≡ 4
 unfolding link_count
 four = ap (λ linked. links_below (shape linked triangle_world.network.registers) 4) same_links
-
--- the number of moves is the bound: 2 for each link and 3 for each node
-pub as_many : applied_over triangle_world twenty_moves ≡ 2 * link_count triangle_world.network + 3 * size triangle_world
-as_many = omega (arith, applied, four)

@@ -1,11 +1,11 @@
 -- The number of married nodes. In a step it grows by at least two, or no node is newly married.
-use Rattle.std.proofs.Common.{◌≡◌, ℕ, zero, suc, ◌+◌, ◌<◌, ◌≤◌, ◌⊎◌, Bool, true, false, Option, Some, refl, sym, ◌∙◌, subst, arith}
+use Rattle.std.proofs.Common.{◌≡◌, ℕ, zero, suc, ◌+◌, ◌<◌, ◌≤◌, ◌⊎◌, Bool, true, false, Option, refl, sym, subst, arith}
 use Rattle.std.proofs.lemmas.Bool.{both_ways, false≢true, false_from_ne_true, Decides.nat_tests}
 use Rattle.mml_ids.specs.Search.{count_below}
 use Rattle.mml_ids.proofs.SearchLemmas.{some_below-find}
 use Rattle.mml_rules.specs.{declared.rule.Rule.Rule, Configuration.Configuration, Configuration.IsLawful, Rules.is_married, Rules.step, Rules.AllHold}
 use Rattle.mml_rules.proofs.{RulesLemmas.married-partner, RulesLemmas.married-from, StepLemmas.step-lawful}
-use Rattle.mml_convergence.proofs.StepLemmas.{step-keeps, step-married}
+use Rattle.mml_convergence.proofs.{StepLemmas.step_keeps, StepLemmas.step-married, NumbersLemmas.count_both}
 
 -- ---- counts
 
@@ -22,10 +22,6 @@ count_two : (n a b : ℕ) (t u : ℕ → Bool) → ((j : ℕ) → t j ≡ true �
 count_two zero a b t u le apart a_in b_in ta tb ua ub = absurd (omega arith)
 count_two (suc n) a b t u le apart a_in b_in ta tb ua ub = grind (arith, count_two n a b t u le apart, count_more n a t u le, count_more n b t u le, le n)
 
-count_all : (n : ℕ) → count_below n (λ j. true) ≤ n
-count_all zero = omega arith
-count_all (suc n) = let rest = count_all n in omega (arith, rest)
-
 -- ---- married nodes
 
 -- the number of married nodes
@@ -39,30 +35,30 @@ apart c i j l linked e = both_ways (c.linked i i) (l.no_loop i) (subst (λ x. c.
 pub married_in : (c : Configuration) (i : ℕ) → IsLawful c → is_married c i ≡ true → i < c.size
 married_in c i l e = let r = married-partner c i e in (l.in_range i r.0 (l.to_linked i r.0 r.1)).0
 
+-- two linked nodes that pass only the weaker of two tests are two more that pass it
+linked_two : (c : Configuration) (a b : ℕ) (t u : ℕ → Bool) → IsLawful c → c.linked a b ≡ true → ((j : ℕ) → t j ≡ true → u j ≡ true)
+    → t a ≡ false → t b ≡ false → u a ≡ true → u b ≡ true → count_below c.size t + 2 ≤ count_below c.size u
+linked_two c a b t u l linked le = let range = l.in_range a b linked in count_two c.size a b t u le (apart c a b l linked) range.0 range.1
+
 -- if some node is married, at least two nodes are
 pub pair_counts : (c : Configuration) (i : ℕ) → IsLawful c → is_married c i ≡ true → 2 ≤ married_count c
 pair_counts c i l e =
     let r = married-partner c i e in
-    let linked = l.to_linked i r.0 r.1 in
-    let range = l.in_range i r.0 linked in
-    let two =
-    count_two c.size i r.0 (λ j. false) (is_married c) (λ j e. absurd (false≢true e)) (apart c i r.0 l linked) range.0 range.1 refl refl e
-    (married-from c r.0 i l r.2 r.1) in
-    omega (arith, two)
+    let back = married-from c r.0 i l r.2 r.1 in
+    omega (arith, linked_two c i r.0 (λ j. false) (is_married c) l (l.to_linked i r.0 r.1) (λ j off. absurd (false≢true off)) refl refl e back)
 
 -- if two linked nodes aren't married, there are at least two more nodes than married ones
 pub open_counts : (c : Configuration) (a b : ℕ) → IsLawful c → c.linked a b ≡ true → is_married c a ≡ false → is_married c b ≡ false → married_count c + 2 ≤ c.size
 open_counts c a b l linked ea eb =
-    let range = l.in_range a b linked in
-    grind (arith, nat_tests, count_two c.size a b (is_married c) (λ j. true) (λ j e. refl) (apart c a b l linked) range.0 range.1 ea eb refl refl, apart, count_all)
+    omega (arith, linked_two c a b (is_married c) (λ j. true) l linked (λ j e. refl) ea eb refl refl, count_both c.size (λ j. true))
 
 -- if some node isn't married, there are more nodes than married ones
 pub single_counts : (c : Configuration) (i : ℕ) → i < c.size → is_married c i ≡ false → married_count c + 1 ≤ c.size
-single_counts c i lt e = omega (arith, count_more c.size i (is_married c) (λ j. true) (λ j e. refl) lt e refl, count_all c.size)
+single_counts c i lt e = omega (arith, count_more c.size i (is_married c) (λ j. true) (λ j e. refl) lt e refl, count_both c.size (λ j. true))
 
 -- there are at most as many married nodes as nodes
 pub most : (c : Configuration) → married_count c ≤ c.size
-most c = omega (arith, count_kept c.size (is_married c) (λ j. true) (λ j e. refl), count_all c.size)
+most c = omega (arith, count_both c.size (is_married c))
 
 -- ---- a step
 
@@ -79,20 +75,12 @@ new_pair : (c : Configuration) (chosen : ℕ → Option Rule) → IsLawful c →
 new_pair c chosen l h x new old =
     let lawful = step-lawful c chosen l h in
     let r = married-partner (step c chosen) x new in
-    let linked = lawful.to_linked x r.0 r.1 in
-    let range = l.in_range x r.0 linked in
     let alone : is_married c r.0 ≡ false = false_from_ne_true (is_married c r.0) (λ m.
     let z = married-partner c r.0 m in
-    let kept = step-keeps c chosen h r.0 z.0 (z.1, z.2) in
-    both_ways (is_married c x) old (back z.0 r.0 (same (step c chosen) r.0 x z.0 r.2 kept.0) z.1 z.2)) in
-    count_two c.size x r.0 (is_married c) (is_married (step c chosen)) (step-married c chosen l h) (apart c x r.0 l linked) range.0 range.1 old alone
-    new (married-from (step c chosen) r.0 x lawful r.2 r.1)
-  where
-    same : (d : Configuration) (y x z : ℕ) → d.p y ≡ Some x → d.p y ≡ Some z → z ≡ x
-    same d y x z a b = let e : Some z ≡ Some x = sym b ∙ a in cc
-
-    back : (z y : ℕ) → z ≡ x → c.p y ≡ Some z → c.p z ≡ Some y → is_married c x ≡ true
-    back z y e a b = married-from c x y l (subst (λ v. c.p v ≡ Some y) e b) (subst (λ v. c.p y ≡ Some v) e a)
+    let kept = step_keeps c chosen h r.0 z.0 (z.1, z.2) in
+    grind (arith, nat_tests, kept, z, r, married-from c x r.0 l)) in
+    linked_two c x r.0 (is_married c) (is_married (step c chosen)) l (lawful.to_linked x r.0 r.1) (step-married c chosen l h) old alone new
+    (married-from (step c chosen) r.0 x lawful r.2 r.1)
 
 -- in a step the number of married nodes grows by at least two, or the step is calm
 pub grows : (c : Configuration) (chosen : ℕ → Option Rule) → IsLawful c → AllHold c chosen → (married_count c + 2 ≤ married_count (step c chosen)) ⊎ Calm c chosen

@@ -1,14 +1,14 @@
 -- Runs in which each close applies only one move.
-use Rattle.std.{proofs.lemmas.Bool.Decides.nat_tests, proofs.lemmas.Bool.and_from, proofs.lemmas.Bool.eq-eqb, proofs.lemmas.Bool.ne_eqb, specs.List.list_all}
+use Rattle.std.{proofs.lemmas.Bool.Decides.nat_tests, proofs.lemmas.Bool.and_from, proofs.lemmas.Bool.eq-eqb, specs.List.list_all}
 use Rattle.std.proofs.Common.{◌≡◌, ℕ, suc, ◌<◌, Bool, true, false, cond, ◌==◌, Option, None, Some, is_some, List, [], ◌∷◌, refl, ap, ◌∙◌, arith}
 use Rattle.mml_rules.specs.{declared.regs.Regs.Regs, declared.rule.Rule.Rule, Configuration.Configuration, Configuration.IsLawful, Rules.guard, Rules.effect, Rules.moved, Network.registers_at}
 use Rattle.mml_lab.specs.Rosters.{RosterValue, owns}
 use Rattle.mml_board.specs.{declared.event.Event.Event, World.World, World.size, World.configuration, World.chosen_at, World.IsWorld, Runs.is_legal_list, Runs.world_of}
-use Rattle.mml_board.specs.Events.{is_chosen, is_any_chosen, is_possible, is_legal, after, chosen_count, moved_registers}
+use Rattle.mml_board.specs.Events.{is_chosen, is_legal, after, chosen_count, moved_registers}
 use Rattle.mml_board.proofs.WorldLemmas.{after-world, chosen_at-set, moved_at, none_at, size-after}
 use Rattle.mml_board.proofs.ClausesLemmas.{owned_legal, grant_possible, close_possible}
 use Rattle.mml_convergence.specs.{Moves.applied_over, Moves.count_closes, Rest.is_grant_or_close, Rounds.Rounds}
-use Rattle.mml_convergence.proofs.{RestLemmas.any_chosen, SumsLemmas.count_same, CountLemmas.count_one}
+use Rattle.mml_convergence.proofs.{RestLemmas.any_chosen, SumsLemmas.count_same, SumsLemmas.count_one}
 use Rattle.mml_lab.specs.declared.who.Who.TheVariants as who
 use Rattle.mml_board.specs.declared.event.Event.TheVariants as event
 
@@ -60,14 +60,6 @@ Holds c i p m = (c.p i ≡ p) × (c.m i ≡ m)
 abbrev pub is : ℕ → ℕ → Bool
 is i j = j == i
 
--- a step in which only node x moves: all other nodes keep their registers
-module _ (n x : ℕ) (c d : Configuration) (rule : Rule) (sized : c.size ≡ n) (e : IsMoved c d (is x) rule) where
-  pub stays : (i : ℕ) (p : Option ℕ) (m : Bool) → i < n → (i ≡ x → ⊥) → Holds c i p m → Holds d i p m
-  stays i p m lt other at = let y = kept c d (is x) rule e i (omega (arith, lt, sized)) (ne_eqb i x other) in (y.0 ∙ at.0, y.1 ∙ at.1)
-
-  pub turns : x < n → Holds d x (effect c x rule).p (effect c x rule).m
-  turns lt = turned c d (is x) rule e x (omega (arith, lt, sized)) (eq-eqb x x refl)
-
 -- ---- a grant and a close
 
 abbrev pub after_move : ℕ → World → ℕ → Rule → World
@@ -85,65 +77,89 @@ pub record Move (r : RosterValue) (s : ℕ) (w : World) (x : ℕ) (rule : Rule) 
 pub move : (r : RosterValue) (s : ℕ) (w : World) (x : ℕ) (rule : Rule) → IsWorld w → IsQuiet w → x < size w → owns r (who.Student s) x ≡ true
     → guard (configuration w) x rule ≡ true → Move r s w x rule
 unfolding chosen_count
-move r s w x rule world quiet lt owner holds = record { legal = legal; chosen = chosen; close = owned_legal r v event.Close refl (close_possible v any); one = one; world = closed; quiet = none_at (size w); moved = moves }
-  where
-    v : World
-    v = after w (event.Grant s x rule)
-
-    possible : is_possible w (event.Grant s x rule) ≡ true
-    possible = grant_possible w s x rule lt (quiet x) holds
-
-    legal : is_legal r w (event.Grant s x rule) ≡ true
-    legal = owned_legal r w (event.Grant s x rule) owner possible
-
-    granted : IsWorld v
-    granted = after-world w (event.Grant s x rule) world possible
-
-    choice : (i : ℕ) → chosen_at v.chosen i ≡ cond (i == x) (Some rule) None
-    choice i = chosen_at-set w.chosen x i (Some rule) (omega (arith, lt, world.choices)) ∙ ap (λ o. cond (i == x) (Some rule) o) (quiet i)
-
-    chosen : is_chosen v x ≡ true
-    chosen = ap is_some (choice x ∙ ap (λ b. cond b (Some rule) None) (eq-eqb x x refl))
-
-    any : is_any_chosen v ≡ true
-    any = any_chosen v.chosen x chosen
-
-    closed : IsWorld (after v event.Close)
-    closed = after-world v event.Close granted (close_possible v any)
-
-    there : (b : Bool) → is_some (cond b (Some rule) None) ≡ b
-    there true = refl
-    there false = refl
-
-    one : chosen_count v ≡ 1
-    one = count_same (size w) (is_chosen v) (is x) (λ i _. ap is_some (choice i) ∙ there (i == x)) ∙ count_one x (size w) lt
-
-    registers : (i : ℕ) → registers_at (moved_registers v) i ≡ moved (configuration w) i (cond (i == x) (Some rule) None)
-    registers i = moved_at v granted.choices i ∙ ap (λ o. moved (configuration w) i o) (choice i)
-
-    moves : IsMoved (configuration w) (configuration (after v event.Close)) (is x) rule
-    moves = record {
-      size = size-after v event.Close;
-      lawful = closed.network.lawful;
-      linked = λ i j. refl;
-      p = λ i lt. ap (λ (g : Regs). g.p) (registers i);
-      m = λ i lt. ap (λ (g : Regs). g.m) (registers i);
-    }
-
--- if the rule may be applied at x, and a run of a moves leads on from each world after this move, a run of a + 1 moves
--- leads on from the world before it
-pub single : (n : ℕ) (r : RosterValue) (s : ℕ) → ((i : ℕ) → i < n → owns r (who.Student s) i ≡ true) → (x a : ℕ) (rule : Rule) (w : World) → IsWorld w →
-    IsQuiet w
-    → size w ≡ n → x < n → guard (configuration w) x rule ≡ true
-    → ((u : World) → IsWorld u → IsQuiet u → IsMoved (configuration w) (configuration u) (is x) rule → Goes a r u) → Goes (suc a) r w
-single n r s owned x a rule w world quiet e lt hold next =
-    let o = move r s w x rule world quiet (omega (arith, lt, e)) (owned x lt) hold in
-    let g = next (after_move s w x rule) o.world o.quiet o.moved in
+move r s w x rule world quiet lt owner holds =
+    let v : World = after w (event.Grant s x rule) in
+    let possible = grant_possible w s x rule lt (quiet x) holds in
+    let granted = after-world w (event.Grant s x rule) world possible in
+    let choice : (i : ℕ) → chosen_at v.chosen i ≡ cond (i == x) (Some rule) None =
+    λ i. chosen_at-set w.chosen x i (Some rule) (omega (arith, lt, world.choices)) ∙ ap (λ o. cond (i == x) (Some rule) o) (quiet i) in
+    let chosen : is_chosen v x ≡ true = ap is_some (choice x ∙ ap (λ b. cond b (Some rule) None) (eq-eqb x x refl)) in
+    let may_close = close_possible v (any_chosen v.chosen x chosen) in
+    let closed = after-world v event.Close granted may_close in
+    let registers : (i : ℕ) → registers_at (moved_registers v) i ≡ moved (configuration w) i (cond (i == x) (Some rule) None) =
+    λ i. moved_at v granted.choices i ∙ ap (λ o. moved (configuration w) i o) (choice i) in
     record {
-      events = event.Grant s x rule ∷ event.Close ∷ g.events;
-      legal = and_from _ _ o.legal (and_from _ _ o.close g.legal);
-      forward = g.forward;
-      alone = omega (arith, o.one, g.alone);
-      rounds = tt;
-      ends = omega (arith, o.one, g.ends);
+      legal = owned_legal r w (event.Grant s x rule) owner possible;
+      chosen = chosen;
+      close = owned_legal r v event.Close refl may_close;
+      one = count_same (size w) (is_chosen v) (is x) (λ i _. grind (arith, choice i)) ∙ count_one x (size w) lt;
+      world = closed;
+      quiet = none_at (size w);
+      moved = record {
+        size = size-after v event.Close;
+        lawful = closed.network.lawful;
+        linked = λ i j. refl;
+        p = λ i lt. ap (λ (g : Regs). g.p) (registers i);
+        m = λ i lt. ap (λ (g : Regs). g.m) (registers i);
+      };
     }
+
+-- a move, followed by a run of a moves, is a run of a + 1 moves
+then_goes : (r : RosterValue) (s : ℕ) (w : World) (x : ℕ) (rule : Rule) (a : ℕ) → Move r s w x rule → Goes a r (after_move s w x rule) → Goes (suc a) r w
+then_goes r s w x rule a o rest = record {
+  events = event.Grant s x rule ∷ event.Close ∷ rest.events;
+  legal = and_from _ _ o.legal (and_from _ _ o.close rest.legal);
+  forward = rest.forward;
+  alone = omega (arith, o.one, rest.alone);
+  rounds = tt;
+  ends = omega (arith, o.one, rest.ends);
+}
+
+-- ---- moves on a network with fixed links, when the registers of all nodes are known
+
+-- the registers g, but those of x are `to`
+abbrev pub put : (ℕ → Regs) → ℕ → Regs → ℕ → Regs
+put g x to i = cond (i == x) to (g i)
+
+module _ (n : ℕ) (links : ℕ → ℕ → Bool) where
+  -- a lawful configuration of n nodes with these links, in which node i has the registers g i
+  pub record Has (g : ℕ → Regs) (c : Configuration) : Type 0 where
+    pub size : c.size ≡ n
+    pub lawful : IsLawful c
+    pub linked : (i j : ℕ) → c.linked i j ≡ links i j
+    pub p : (i : ℕ) → i < n → c.p i ≡ (g i).p
+    pub m : (i : ℕ) → i < n → c.m i ≡ (g i).m
+
+  -- the registers after a step in which only x moves
+  written : (g : ℕ → Regs) (x : ℕ) (to : Regs) (rule : Rule) (c d : Configuration) → Has g c → IsMoved c d (is x) rule
+      → (effect c x rule).p ≡ to.p → (effect c x rule).m ≡ to.m → Has (put g x to) d
+  written g x to rule c d k e to_p to_m = record {
+    size = e.size ∙ k.size;
+    lawful = e.lawful;
+    linked = λ i j. e.linked i j ∙ k.linked i j;
+    p = λ i lt. grind (arith, nat_tests, kept c d (is x) rule e i, turned c d (is x) rule e i, k.p i);
+    m = λ i lt. grind (arith, nat_tests, kept c d (is x) rule e i, turned c d (is x) rule e i, k.m i);
+  }
+
+  -- a number that has a pointer is a node
+  pub pointer_in : (g : ℕ → Regs) (c : Configuration) → Has g c → (i j : ℕ) → c.p i ≡ Some j → i < n
+  pointer_in g c k i j e = omega (arith, (k.lawful.in_range i j (k.lawful.to_linked i j e)).0, k.size)
+
+  module _ (r : RosterValue) (s : ℕ) (owned : (i : ℕ) → i < n → owns r (who.Student s) i ≡ true) where
+    -- a run of a moves leads on from each world in which the registers are g
+    abbrev pub Onward : ℕ → (ℕ → Regs) → Type 0
+    Onward a g = (w : World) → IsWorld w → IsQuiet w → Has g (configuration w) → Goes a r w
+
+    -- a run leads on from registers if one does from the same registers
+    pub alike : (a : ℕ) (g h : ℕ → Regs) → ((i : ℕ) → i < n → g i ≡ h i) → Onward a h → Onward a g
+    alike a g h same next w world quiet k = next w world quiet (grind (arith, k.p, k.m, same))
+
+    -- if the rule may be applied at x and writes `to`, and a run of a moves leads on from the registers after this
+    -- move, a run of a + 1 moves leads on from the registers before it
+    pub play : (a x : ℕ) (rule : Rule) (g : ℕ → Regs) (to : Regs) → x < n
+        → ((c : Configuration) → Has g c → (guard c x rule ≡ true) × ((effect c x rule).p ≡ to.p) × ((effect c x rule).m ≡ to.m))
+        → Onward a (put g x to) → Onward (suc a) g
+    play a x rule g to lt may next w world quiet k =
+        let y = may (configuration w) k in
+        let o = move r s w x rule world quiet (omega (arith, lt, k.size)) (owned x lt) y.0 in
+        then_goes r s w x rule a o (next (after_move s w x rule) o.world o.quiet (written g x to rule _ _ k o.moved y.1 y.2))

@@ -33,17 +33,9 @@ pub record Seduces (c : Configuration) (i j : ℕ) : Type 0 where
 -- if i may seduce j, its greatest candidate, then m of i is right, j is higher, and the pointers of both are null
 pub seduces : (c : Configuration) (i j : ℕ) → guard c i Rule.Seduction ≡ true → greatest_candidate c i ≡ Some j → Seduces c i j
 seduces c i j h e =
-    grind (
-      arith,
-      nat_tests,
-      and_parts (m_is_right c i) (is_none (c.p i) && (not (has_suitor c i) && is_some (greatest_candidate c i))) h,
-      and_parts (c.linked i j) (nat_lt i j && (is_none (c.p j) && not (c.m j))) (greatest-is c i j e),
-      greatest-is,
-      beq-true,
-      none-null,
-      ltb-true,
-      not-true,
-    )
+    let may = and_parts (m_is_right c i) (is_none (c.p i) && (not (has_suitor c i) && is_some (greatest_candidate c i))) h in
+    let candidate = and_parts (c.linked i j) (nat_lt i j && (is_none (c.p j) && not (c.m j))) (greatest-is c i j e) in
+    grind (arith, nat_tests, may, candidate, beq-true, none-null, ltb-true, not-true)
 
 -- a node that may seduce has a greatest candidate
 pub seduced : (c : Configuration) (i : ℕ) → guard c i Rule.Seduction ≡ true → (j : ℕ) × (greatest_candidate c i ≡ Some j)
@@ -67,18 +59,13 @@ abandoned c i h = grind (arith, nat_tests, and_parts, false≢true)
 -- a node is charged for its own move, but not for a marriage with a lower node
 abbrev pub pays : Option Rule → ℕ → Bool
 pays None i = false
-pays (Some Rule.Update) i = true
 pays (Some (Rule.Marriage j)) i = not (nat_lt j i)
-pays (Some Rule.Seduction) i = true
-pays (Some Rule.Abandonment) i = true
+pays (Some _) i = true
 
 -- k marries the lower node i, so this move of k is charged to i
 abbrev pub marries_lower : Option Rule → (k i : ℕ) → Bool
-marries_lower None k i = false
-marries_lower (Some Rule.Update) k i = false
 marries_lower (Some (Rule.Marriage j)) k i = (j == i) && nat_lt i k
-marries_lower (Some Rule.Seduction) k i = false
-marries_lower (Some Rule.Abandonment) k i = false
+marries_lower _ k i = false
 
 -- if `marries_lower` is true, k marries i, and i is lower than k
 pub marries_lower-means : (o : Option Rule) (k i : ℕ) → marries_lower o k i ≡ true → (o ≡ Some (Rule.Marriage i)) × (i < k)
@@ -99,16 +86,16 @@ pub record Makes (c : Configuration) (i j : ℕ) : Type 0 where
 
 -- if i points at j after its move and not before it, `Makes` holds
 pub makes : (c : Configuration) (i j : ℕ) (o : Option Rule) → Holds c i o → holds (c.p i) j ≡ false → (moved c i o).p ≡ Some j → Makes c i j
-makes c i j None h off e = absurd (both_ways (holds (c.p i) j) off (holds-from (c.p i) j e))
-makes c i j (Some Rule.Update) h off e = absurd (both_ways (holds (c.p i) j) off (holds-from (c.p i) j e))
 makes c i j (Some (Rule.Marriage k)) h off e = grind (arith, nat_tests, marries c i k (h (Rule.Marriage k) refl))
 makes c i j (Some Rule.Seduction) h off e = grind (arith, nat_tests, seduces c i j (h Rule.Seduction refl) e)
 makes c i j (Some Rule.Abandonment) h off e = cc
+makes c i j _ h off e = absurd (both_ways (holds (c.p i) j) off (holds-from (c.p i) j e))
 
 -- if i points at j before its move and not after it, the move is an abandonment of j, and keeps m
 pub drops : (c : Configuration) (i j : ℕ) (o : Option Rule) → Holds c i o → c.p i ≡ Some j → holds (moved c i o).p j ≡ false → Abandons c i j × ((moved c i o).m ≡ c.m i)
-drops c i j None h e off = absurd (both_ways (holds (c.p i) j) off (holds-from (c.p i) j e))
-drops c i j (Some Rule.Update) h e off = absurd (both_ways (holds (c.p i) j) off (holds-from (c.p i) j e))
-drops c i j (Some (Rule.Marriage k)) h e off = let g = marries c i k (h (Rule.Marriage k) refl) in let null = g.null in cc
-drops c i j (Some Rule.Seduction) h e off = let some = seduced c i (h Rule.Seduction refl) in grind (arith, nat_tests, seduces c i some.0 (h Rule.Seduction refl) some.1)
+drops c i j (Some (Rule.Marriage k)) h e off = grind (arith, marries c i k (h (Rule.Marriage k) refl))
+drops c i j (Some Rule.Seduction) h e off =
+    let some = seduced c i (h Rule.Seduction refl) in
+    grind (arith, nat_tests, seduces c i some.0 (h Rule.Seduction refl) some.1)
 drops c i j (Some Rule.Abandonment) h e off = (abandons c i j (h Rule.Abandonment refl) e, refl)
+drops c i j _ h e off = absurd (both_ways (holds (c.p i) j) off (holds-from (c.p i) j e))

@@ -1,98 +1,106 @@
--- The run in the dense network, and the number of its moves.
-use Rattle.std.proofs.Common.{◌≡◌, ℕ, zero, suc, ◌+◌, ◌*◌, ◌-◌, ◌<◌, ◌≤◌, Bool, true, false, cond, ◌==◌, Some, List, length, refl, ap, arith}
-use Rattle.std.{specs.List.list_all, proofs.lemmas.Bool.eqb-true, proofs.lemmas.Bool.ne_eqb, proofs.lemmas.Bool.Decides.nat_tests}
+-- The dense network, the run in it, and the number of its moves.
+use Rattle.std.proofs.Common.{◌≡◌, ℕ, zero, suc, ◌+◌, ◌*◌, ◌-◌, ◌%◌, ◌<◌, ◌≤◌, Bool, true, false, Option, Some, ◌==◌, refl, ◌∙◌, arith}
+use Rattle.std.proofs.lemmas.Bool.{Decides.nat_tests}
 use Rattle.mml_ids.specs.{declared.TheConstants.MAX_NODES, Search.count_below}
-use Rattle.mml_rules.specs.declared.regs.Regs.{Regs}
+use Rattle.mml_rules.specs.Configuration.{Configuration, holds}
 use Rattle.mml_lab.specs.Rosters.{RosterValue, owns}
-use Rattle.mml_board.specs.{declared.event.Event.Event, World.World, World.configuration, World.IsWorld, Runs.is_legal_list}
-use Rattle.mml_board.proofs.WorldLemmas.{none_at}
-use Rattle.mml_convergence.specs.{Moves.applied_over, Rest.is_grant_or_close, Courtships.most_courtships, Crowd.first_pointer, Crowd.crowd_world}
-use Rattle.mml_convergence.proofs.{MoveLemmas.IsQuiet, MoveLemmas.Goes, MoveLemmas.stop, MoveLemmas.unrounded, RunLemmas.court, RunLemmas.marry, RunLemmas.learn, RunLemmas.phase}
-use Rattle.mml_convergence.proofs.{CountLemmas.count_between, CountLemmas.count_one, CountLemmas.count_either, ClearLemmas.clear, ClearLemmas.cleared}
-use Rattle.mml_convergence.proofs.PhaseLemmas.{Shape, Seated, shaped, courts, marries_now, learns, leaves, courts-means, courts-from, leaves-means, leaves-from}
-use Rattle.mml_convergence.proofs.CrowdLemmas.{all, points, first_registers, first_shape, crowd_is_world}
+use Rattle.mml_board.specs.World.{size, configuration, IsWorld}
+use Rattle.mml_convergence.specs.{Courtships.most_courtships, Crowd.is_near, Crowd.first_pointer, Crowd.crowd_world}
+use Rattle.mml_convergence.proofs.{MoveLemmas.Has, MoveLemmas.stop, MoveLemmas.unrounded, RunLemmas.Onward, RunLemmas.phase, ClearLemmas.Applies, ClearLemmas.cleared, ClearLemmas.clears}
+use Rattle.mml_convergence.proofs.SumsLemmas.{count_between, count_one, count_either}
+use Rattle.mml_convergence.proofs.PhaseLemmas.{Seated, courts, marries_now, learns, leaves}
+use Rattle.mml_convergence.proofs.ClearLemmas as opened
 use Rattle.mml_lab.specs.declared.who.Who.TheVariants as who
+
+-- ---- the dense network at the beginning
+
+-- every node of the dense network is a low node, as `PhaseLemmas` uses the word
+abbrev all : ℕ → Bool
+all i = true
+
+abbrev first : ℕ → ℕ → Option ℕ
+first n i = Some (first_pointer n i)
+
+-- at the beginning, each node points at another node, which doesn't point back
+points : (n i : ℕ) → 4 ≤ n → i < n → (first_pointer n i < n) × (i ≡ first_pointer n i → ⊥) × (holds (first n (first_pointer n i)) i ≡ false)
+points n i four lt = grind (arith, nat_tests)
+
+-- links go both ways, join different nodes, and are between nodes
+turns : (n i j : ℕ) → is_near n i j ≡ true → is_near n j i ≡ true
+turns n i j e = grind (arith, nat_tests)
+
+loops : (n i : ℕ) → is_near n i i ≡ true → ⊥
+loops n i e = grind (arith, nat_tests)
+
+joined : (n : ℕ) → 4 ≤ n → (i j : ℕ) → i < n → first n i ≡ Some j → (j < n) × (is_near n i j ≡ true)
+joined n four i j lt e = grind (arith, nat_tests)
+
+-- the dense network at the beginning is a lawful world of n nodes
+pub crowd_opens : (n : ℕ) → 4 ≤ n → n ≤ MAX_NODES → IsWorld (crowd_world n) × (size (crowd_world n) ≡ n)
+crowd_opens n four few = (opened.is_world n (is_near n) (first n) (turns n) (loops n) (joined n four) few, opened.sized n (is_near n) (first n))
+
+near : (n r b i : ℕ) → r + b + 1 ≡ n → r ≤ i → i < b → is_near n i b ≡ true
+near n r b i sum from below = grind (arith, nat_tests)
+
+-- after all nodes have updated and dropped their pointers, phase 0 can begin
+seated : (n : ℕ) (c : Configuration) → Has n (opened.links n (is_near n) (first n)) (cleared (first n) n) c → Seated n all 0 c
+seated n c k = record {
+  shape = record {
+    size = k.size;
+    lawful = k.lawful;
+    joined = λ r b i sum room from below low.
+        let linked =
+        k.linked i b ∙ opened.linked-from n (is_near n) (first n) i b (omega (arith, below, sum)) (omega (arith, sum)) (near n r b i sum from below) in
+        (linked, k.lawful.symmetric i b linked);
+    upward = λ i j linked lt. refl;
+    lowest = λ r room. refl;
+  };
+  couples = λ i j lt total. absurd (omega (arith, lt));
+  free = λ i from near. (grind (arith, nat_tests, k.p i), grind (arith, nat_tests, k.m i));
+}
+
+-- ---- the run
 
 -- the number of nodes that move in each of the four rounds of a phase
 counts : (n p b : ℕ) (sum : p + b + 1 ≡ n) (room : 2 * p + 2 ≤ n)
     → (p + count_below n (courts n all p b sum room) ≡ b) × (count_below n (marries_now n all p b sum room) ≡ 1)
     × (count_below n (learns n all p b sum room) ≡ 2) × (suc p + count_below n (leaves n all p b sum room) ≡ b)
 counts n p b sum room =
-    let both = count_either n (λ i. i == b) (λ i. i == p) (λ i on. ne_eqb i p (λ same. let at = eqb-true i b on in omega (arith, at, same, sum, room))) in
+    let both = count_either n (λ i. i == b) (λ i. i == p) (grind (arith, nat_tests)) in
     let one = count_one b n (omega (arith, sum)) in (
-      count_between p b (courts n all p b sum room) (omega (arith, sum, room)) (λ i from below. courts-from n all p b sum room i from below refl)
-          (λ i on. let x = courts-means n all p b sum room i on in (x.0, x.1)) n (omega (arith, sum)),
+      count_between p b (courts n all p b sum room) (omega (arith, sum, room)) (grind (arith, nat_tests)) (grind (arith, nat_tests)) n (omega (arith, sum)),
       one,
       omega (arith, both, one, count_one p n (omega (arith, sum))),
-      count_between (suc p) b (leaves n all p b sum room) (omega (arith, sum, room)) (λ i from below. leaves-from n all p b sum room i from below refl)
-          (λ i on. let x = leaves-means n all p b sum room i on in (x.0, x.1)) n (omega (arith, sum)),
+      count_between (suc p) b (leaves n all p b sum room) (omega (arith, sum, room)) (grind (arith, nat_tests)) (grind (arith, nat_tests)) n
+          (omega (arith, sum)),
     )
 
--- the number of moves of the last phase and of q phases before it
-abbrev moves_of : ℕ → Bool → ℕ
-moves_of zero odd = 4 + 2 * cond odd 1 0
-moves_of (suc q) odd = 4 * q + 8 + 2 * cond odd 1 0 + moves_of q odd
-
 module _ (r : RosterValue) (s n : ℕ) (owned : (i : ℕ) → i < n → owns r (who.Student s) i ≡ true) where
-  phases : (q : ℕ) (odd : Bool) (p b : ℕ) (sum : p + b + 1 ≡ n) (room : 2 * p + 2 ≤ n) → 2 * (p + q) + 2 + cond odd 1 0 ≡ n → (w : World) → IsWorld w
-      → IsQuiet w → Seated n all p (configuration w) → Goes (moves_of q odd) r w
-  phases zero false p b sum room whole w world quiet at =
-      unrounded _ _ r w (suc (suc (suc 0))) (λ u x e. e)
-      (court r s n all owned p b sum room (λ u x. x ≡ moves_of zero false) (suc (suc 0)) w world quiet at (λ u ku qu courted.
-      marry r s n all owned p b sum room _ (suc 0) u ku qu courted (λ v kv qv engaged.
-      learn r s n all owned p b sum room _ 0 v kv qv engaged (λ x kx qx wed. stop _ r x (omega (arith, counts n p b sum room, whole, sum))))))
-  phases zero true p b sum room whole w world quiet at =
-      unrounded _ _ r w (suc (suc (suc (suc 0)))) (λ u x e. e)
-      (phase r s n all owned p b sum room (λ u x. x ≡ moves_of zero true) 0 w world quiet at
-      (λ u ku qu seated. stop _ r u (omega (arith, counts n p b sum room, whole, sum))))
-  phases (suc q) odd p b sum room whole w world quiet at =
-      unrounded _ _ r w (suc (suc (suc (suc 0)))) (λ u x e. e)
-      (phase r s n all owned p b sum room (λ u x. x ≡ moves_of (suc q) odd) 0 w world quiet at (λ u ku qu seated.
-      unrounded (λ u x. x ≡ moves_of q odd) _ r u 0 (λ v x e. omega (arith, e, counts n p b sum room, whole, sum))
-      (phases q odd (suc p) (n - (p + 2)) (omega (arith, whole)) (omega (arith, whole)) (omega (arith, whole)) u ku qu seated)))
+  -- the phases from p on, if f nodes aren't married: the moves are f plus twice the greatest number of courtships, minus
+  -- one if f is odd
+  phases : (f p : ℕ) → 2 * p + f ≡ n → Onward r s n all owned (λ u x. x ≡ f + 2 * most_courtships f - f % 2) 0 (Seated n all p)
+  phases zero p e w world quiet at = stop _ r w refl
+  phases (suc zero) p e w world quiet at = stop _ r w refl
+  phases (suc (suc f)) p e w world quiet at =
+      let b = n - (p + 1) in
+      let sum : p + b + 1 ≡ n = omega (arith, e) in
+      let room : 2 * p + 2 ≤ n = omega (arith, e) in
+      unrounded _ _ r w 4 (λ u x e. e)
+      (phase r s n all owned p b sum room _ 0 (λ u ku qu seated.
+      unrounded (λ u x. x ≡ f + 2 * most_courtships f - f % 2) _ r u 0 (λ v x same. omega (arith, same, counts n p b sum room, e))
+      (phases f (suc p) (omega (arith, e)) u ku qu seated)) w world quiet at)
 
--- the moves of all phases are n plus twice the greatest number of courtships, minus one if n is odd
-moves_sum : (q : ℕ) (odd : Bool) → moves_of q odd + cond odd 1 0 ≡ 2 * q + 2 + cond odd 1 0 + 2 * most_courtships (2 * q + 2 + cond odd 1 0)
-moves_sum zero false = refl
-moves_sum zero true = refl
-moves_sum (suc q) odd = grind (arith, nat_tests, moves_sum q odd)
-
-abbrev pub Applies : RosterValue → World → ℕ → Type 0
-Applies r w a = (es : List Event) × (is_legal_list r w es ≡ true) × (list_all is_grant_or_close es ≡ true) × (applied_over w es ≡ a)
-
-all_point : (f : ℕ → ℕ) (left i a : ℕ) → cleared (λ j. Some (f j)) left i a ≡ 2 * left + a
-all_point f zero i a = omega arith
-all_point f (suc left) i a = omega (arith, all_point f left (suc i) a)
-
-whole_run : (r : RosterValue) (s n q : ℕ) (odd : Bool) → 4 ≤ n → n ≤ MAX_NODES → ((i : ℕ) → i < n → owns r (who.Student s) i ≡ true)
-    → 2 * q + 2 + cond odd 1 0 ≡ n → (a : ℕ) → 2 * n + moves_of q odd ≡ a → Applies r (crowd_world n) a
-whole_run r s n q odd four few owned whole a total =
-    let run =
-    clear n (λ i. Some (first_pointer n i)) (Shape n all) (λ c k. (k.size, k.lawful)) (λ c d x rule k e. shaped c d _ rule e n all k)
-    (λ i j. points n i j four) r s owned n 0 (moves_of q odd) (omega arith) (crowd_world n) (crowd_is_world n four few)
-    (none_at (length (crowd_world n).network.registers)) (record {
-      shape = first_shape n four;
-      done = λ j lt. absurd (omega (arith, lt));
-      here = λ lt. first 0 lt;
-      todo = λ j more lt. first j lt;
-    }) (λ u ku qu k. phases r s n owned q odd 0 (n - 1) (omega (arith, whole)) (omega (arith, whole)) (omega (arith, whole)) u ku qu (record {
-      shape = k.shape;
-      couples = λ i j lt total. absurd (omega (arith, lt));
-      free = λ i from near. k.done i (omega (arith, near));
-    })) in
-    (run.events, run.legal, run.forward, omega (arith, run.ends, total, all_point (first_pointer n) n 0 (moves_of q odd)))
-  where
-    first : (j : ℕ) → j < n → ((configuration (crowd_world n)).p j ≡ Some (first_pointer n j)) × ((configuration (crowd_world n)).m j ≡ true)
-    first j lt = (ap (λ (g : Regs). g.p) (first_registers n four j lt), ap (λ (g : Regs). g.m) (first_registers n four j lt))
+whole_run : (r : RosterValue) (s n : ℕ) → 4 ≤ n → n ≤ MAX_NODES → ((i : ℕ) → i < n → owns r (who.Student s) i ≡ true)
+    → (a : ℕ) → 3 * n + 2 * most_courtships n - n % 2 ≡ a → Applies r (crowd_world n) a
+whole_run r s n four few owned a total =
+    clears n (is_near n) (first n) (turns n) (loops n) (joined n four) r s owned n (omega arith)
+    (λ i lt. let x = points n i four lt in (first_pointer n i, refl, x.0, x.1, x.2)) few (n + 2 * most_courtships n - n % 2) a (omega (arith, total))
+    (λ w world quiet k. phases r s n owned n 0 (omega arith) w world quiet (seated n (configuration w) k))
 
 pub moves_reached_even : (r : RosterValue) (s k : ℕ) → 2 ≤ k → 2 * k ≤ MAX_NODES → ((i : ℕ) → i < 2 * k → owns r (who.Student s) i ≡ true)
     → Applies r (crowd_world (2 * k)) (3 * (2 * k) + 2 * most_courtships (2 * k))
-moves_reached_even r s k two few owned =
-    let whole : 2 * (k - 1) + 2 + cond false 1 0 ≡ 2 * k = omega (arith, two) in
-    whole_run r s (2 * k) (k - 1) false (omega (arith, two)) few owned whole _ (omega (arith, moves_sum (k - 1) false, ap most_courtships whole))
+moves_reached_even r s k two few owned = whole_run r s (2 * k) (omega (arith, two)) few owned _ (omega arith)
 
 pub moves_reached_odd : (r : RosterValue) (s k : ℕ) → 2 ≤ k → 2 * k + 1 ≤ MAX_NODES → ((i : ℕ) → i < 2 * k + 1 → owns r (who.Student s) i ≡ true)
     → Applies r (crowd_world (2 * k + 1)) (3 * (2 * k + 1) + 2 * most_courtships (2 * k + 1) - 1)
-moves_reached_odd r s k two few owned =
-    let whole : 2 * (k - 1) + 2 + cond true 1 0 ≡ 2 * k + 1 = omega (arith, two) in
-    whole_run r s (2 * k + 1) (k - 1) true (omega (arith, two)) few owned whole _ (omega (arith, moves_sum (k - 1) true, ap most_courtships whole))
+moves_reached_odd r s k two few owned = whole_run r s (2 * k + 1) (omega (arith, two)) few owned _ (omega arith)

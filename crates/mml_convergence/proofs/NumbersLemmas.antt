@@ -1,6 +1,6 @@
 -- Sums, counts, and how the greatest number of courtships grows with the number of nodes.
-use Rattle.std.proofs.Common.{◌≡◌, ℕ, zero, suc, ◌+◌, ◌*◌, ◌≤◌, ◌-◌, Bool, true, cond, not, refl, subst, arith}
-use Rattle.std.proofs.lemmas.Bool.Decides.{nat_tests}
+use Rattle.std.proofs.Common.{◌≡◌, ℕ, zero, suc, ◌+◌, ◌*◌, ◌≤◌, Bool, true, cond, not, refl, arith}
+use Rattle.std.proofs.lemmas.Bool.{cases_eq, Decides.nat_tests}
 use Rattle.mml_ids.specs.Search.{count_below}
 use Rattle.mml_convergence.specs.{Potential.sum_below, Courtships.most_courtships}
 
@@ -29,29 +29,19 @@ courtships_rise zero = omega arith
 courtships_rise (suc zero) = omega arith
 courtships_rise (suc (suc n)) = let rest = courtships_rise n in omega (arith, rest)
 
-courtships_between : (n k : ℕ) → most_courtships n ≤ most_courtships (n + k)
-courtships_between n zero = grind (arith, nat_tests)
-courtships_between n (suc k) = grind (arith, nat_tests, courtships_rise, courtships_between n k)
-
 -- with more nodes, the greatest number of courtships isn't lower
 pub courtships_kept : (n u : ℕ) → n ≤ u → most_courtships n ≤ most_courtships u
-courtships_kept n u le = let e : n + (u - n) ≡ u = omega (arith, le) in subst (λ z. most_courtships n ≤ most_courtships z) e (courtships_between n (u - n))
+courtships_kept n zero le = grind (arith, nat_tests)
+courtships_kept n (suc u) le = grind (arith, nat_tests, courtships_kept n u, courtships_rise u, cases_eq n (suc u))
 
 courtships_more : (n : ℕ) → 1 ≤ n → most_courtships n + 1 ≤ most_courtships (suc n)
 courtships_more n le = grind (arith, nat_tests, courtships_rise)
 
--- twice the greatest number of courtships is lower for n nodes than for n + 2 + k, by at least 1 for each of the 2 + k
--- nodes and 2 for each of the n
-couples_pay : (n k : ℕ) → 2 * most_courtships n + (n + (n + 2 + k)) ≤ 2 * most_courtships (n + 2 + k)
-couples_pay n zero = grind (arith, nat_tests)
-couples_pay n (suc k) = grind (arith, nat_tests, courtships_more, couples_pay n k)
-
 -- if n is at most u - 2, twice the greatest number of courtships is lower for n nodes than for u, by at least 1 for
 -- each of the u - n nodes and 2 for each of the n
 pub marriages_pay : (n u : ℕ) → n + 2 ≤ u → 2 * most_courtships n + (n + u) ≤ 2 * most_courtships u
-marriages_pay n u le =
-    let e : n + 2 + (u - (n + 2)) ≡ u = omega (arith, le) in
-    subst (λ z. 2 * most_courtships n + (n + z) ≤ 2 * most_courtships z) e (couples_pay n (u - (n + 2)))
+marriages_pay n (suc (suc u)) le = grind (arith, nat_tests, marriages_pay n (suc u), courtships_more (suc u), cases_eq n u)
+marriages_pay n _ le = absurd (omega (arith, le))
 
 -- ---- the greatest number of courtships for an even and for an odd number of nodes
 

@@ -1,12 +1,12 @@
 -- In a phase, a rule may still be applied at a node, with the same effect, after other nodes have moved.
-use Rattle.std.proofs.Common.{◌≡◌, ℕ, suc, ◌+◌, ◌*◌, ◌<◌, ◌≤◌, inl, inr, Bool, true, false, None, Some, sym, ◌∙◌, arith}
-use Rattle.std.proofs.lemmas.Bool.{cases_Bool, cases_lt, ne_eqb, eqb-true, or_cases, false_from_ne_true, Decides.nat_tests}
+use Rattle.std.proofs.Common.{◌≡◌, ℕ, suc, ◌+◌, ◌*◌, ◌<◌, ◌≤◌, Bool, true, false, None, Some, sym, ◌∙◌, arith}
+use Rattle.std.proofs.lemmas.Bool.{cases_Bool, ne_eqb, eqb-true, or_cases, false_from_ne_true, Decides.nat_tests}
 use Rattle.mml_rules.specs.{declared.rule.Rule.Rule, Configuration.Configuration, Meaning.IsCandidate}
 use Rattle.mml_rules.proofs.RulesLemmas.{married-null, married-from}
 use Rattle.mml_convergence.proofs.{MoveLemmas.kept, MoveLemmas.turned, SinglyLemmas.Stands, SinglyLemmas.above, SinglyLemmas.above_in, SinglyLemmas.above_off, SinglyLemmas.above_out}
 use Rattle.mml_convergence.proofs.IdleLemmas.{may_update, may_marry, may_abandon, may_seduce, seduces_greatest}
 use Rattle.mml_convergence.proofs.PhaseLemmas.{Seated, Courted, Engaged, Wed, courts, marries_now, learns, leaves, courts-means, leaves-means, shaped, owner_in, some_same, seated_free, candidate, greatest}
-use Rattle.mml_convergence.proofs.PhaseLemmas.{wed_pair, groom}
+use Rattle.mml_convergence.proofs.PhaseLemmas.{wed_pair, groom, seduces_b}
 
 -- nodes with a null pointer and m true may still update after other nodes have updated
 pub first_updates_stand : (c : Configuration) (t : ℕ → Bool) → ((i : ℕ) → i < c.size → (c.p i ≡ None) × (c.m i ≡ true)) → Stands c t Rule.Update
@@ -16,7 +16,7 @@ module _ (n : ℕ) (low : ℕ → Bool) (r b : ℕ) (sum : r + b + 1 ≡ n) (roo
   pub courts_stand : (c : Configuration) → Seated n low r c → Stands c (courts n low r b sum room) Rule.Seduction
   courts_stand c k d i lt on e =
       let same = still i lt (above_off t (suc i) i (omega arith)) in
-      let to_c = seduces_greatest c k.shape.lawful i b (candidate n low r b sum room c k i x.0 x.1 x.2) (greatest n low r b sum room c k i) in
+      let to_c = seduces_b n low r b sum room c k i x.0 x.1 x.2 in
       let to_d = seduces_greatest d e.lawful i b candidate_now greatest_now in
       (may_seduce d e.lawful i b (same.0 ∙ free.0) (same.1 ∙ free.1) nobody candidate_now, to_d ∙ sym to_c, same.1)
     where
@@ -40,39 +40,23 @@ module _ (n : ℕ) (low : ℕ → Bool) (r b : ℕ) (sum : r + b + 1 ≡ n) (roo
       candidate_now = grind (arith, nat_tests, candidate n low r b sum room c k i x.0 x.1 x.2, still b (omega (arith, sum, k.shape.size)) (high_off b (omega arith)))
 
       greatest_now : (j : ℕ) → IsCandidate d i j → j ≤ b
-      greatest_now j y = elim (cases_lt b j) [
-        | inr le ↦ le
-        | inl above_b ↦
-            let linked = sym (e.linked i j) ∙ y.0 in
-            let range = k.shape.lawful.in_range i j linked in
-            let s = still j range.1 (high_off j (omega (arith, above_b))) in
-            greatest n low r b sum room c k i j (linked, y.1, sym s.0 ∙ y.2, sym s.1 ∙ y.3)
-      ]
+      greatest_now j y =
+          let linked = sym (e.linked i j) ∙ y.0 in
+          let range = k.shape.lawful.in_range i j linked in
+          grind (arith, nat_tests, high_off j, still j range.1, greatest n low r b sum room c k i j)
+
+      seduces : (j : ℕ) → j < c.size → above t (suc i) j ≡ true → d.p j ≡ Some b
+      seduces j j_in moved =
+          let y = courts-means n low r b sum room j (above_in t (suc i) j moved).0 in
+          (turned c d (above t (suc i)) Rule.Seduction e j j_in moved).0 ∙ seduces_b n low r b sum room c k j y.0 y.1 y.2
 
       nobody : (j : ℕ) → d.p j ≡ Some i → ⊥
       nobody j points =
           let j_in = owner_in n low d (shaped c d (above t (suc i)) Rule.Seduction e n low k.shape) j i points in
-          elim (cases_Bool (above t (suc i) j)) [
-            | inl moved ↦
-                let is = (above_in t (suc i) j moved).0 in
-                let y = courts-means n low r b sum room j is in
-                let to = (turned c d (above t (suc i)) Rule.Seduction e j (omega (arith, j_in, k.shape.size)) moved).0 in
-                let at = seduces_greatest c k.shape.lawful j b (candidate n low r b sum room c k j y.0 y.1 y.2) (greatest n low r b sum room c k j) in
-                omega (arith, some_same b i (sym (to ∙ at) ∙ points), x.1)
-            | inr off ↦ let s = still j (omega (arith, j_in, k.shape.size)) off in seated_free n low r b sum room c k i j x.0 (omega (arith, x.1, sum)) (sym s.0 ∙ points)
-          ]
+          grind (arith, nat_tests, j_in, cases_Bool, seduces j, still j, some_same b i, seated_free n low r b sum room c k i j)
 
   pub marriage_stands : (c : Configuration) → Courted n low r b sum room c → Stands c (marries_now n low r b sum room) (Rule.Marriage r)
   marriage_stands c k d i lt on e = grind (arith, nat_tests, may_marry, marries_now, kept, above, above_in)
-
-  -- i and its partner point at each other
-  record Paired (c : Configuration) (i : ℕ) : Type 0 where
-    mate : ℕ
-    i_in : i < n
-    mate_in : mate < n
-    to : c.p i ≡ Some mate
-    back : c.p mate ≡ Some i
-    unknown : c.m i ≡ false
 
   pub updates_stand : (c : Configuration) → Engaged n low r b sum room c → Stands c (learns n low r b sum room) Rule.Update
   updates_stand c k d i lt on e = grind (arith, nat_tests, or_cases, eqb-true, groom, above, learns, turned, kept, above_off, married-from, may_update)

@@ -1,11 +1,12 @@
 -- What holds after a node's turn: in any run, or as long as the number of married nodes doesn't grow. A node has its
 -- turn if it isn't privileged at some moment, or moves. A suitor of a node is a node that points at it.
-use Rattle.std.proofs.Common.{◌≡◌, ℕ, ◌+◌, ◌<◌, ◌≤◌, ◌⊎◌, inl, inr, false, Option, Some, arith, rules}
+use Rattle.std.proofs.Common.{◌≡◌, ℕ, ◌+◌, ◌<◌, ◌≤◌, ◌⊎◌, inl, inr, false, ◌∙◌, Option, Some, arith, rules}
 use Rattle.std.proofs.lemmas.Bool.Decides.{nat_tests}
 use Rattle.mml_rules.specs.{declared.rule.Rule.Rule, Configuration.Configuration, Configuration.IsLawful, Rules.is_privileged, Rules.step, Rules.AllHold}
+use Rattle.mml_stable.proofs.MatchingLemmas.{idle-quiet, idle-settled, quiet-alone, no_open_link}
 use Rattle.mml_convergence.proofs.MarriedCountLemmas.{married_count, married_kept, grows, Calm}
-use Rattle.mml_convergence.proofs.StagesLemmas.{Modest, Upward, Aware, Hopeful, Each, IsOpen, IsCourting, IsCourted, IsLone, IsRising, IsFacing, facing_idle, rising_stays, facing_moves, facing_stays}
-use Rattle.mml_convergence.proofs.StagesLemmas.{lone_stays, modest_idle, upward_idle, aware_idle, hopeful_idle, courting_idle, courted_idle, modest_stays, modest_moves, upward_stays, upward_moves}
+use Rattle.mml_convergence.proofs.StagesLemmas.{Modest, Upward, Aware, Hopeful, Each, IsOpen, IsCourting, IsCourted, IsLone, IsRising, IsFacing, rising_stays, facing_moves, facing_stays}
+use Rattle.mml_convergence.proofs.StagesLemmas.{lone_stays, upward_idle, hopeful_idle, modest_stays, modest_moves, upward_stays, upward_moves}
 use Rattle.mml_convergence.proofs.StagesLemmas.{aware_stays, aware_moves, hopeful_stays, hopeful_moves, open_stays, courting_stays, courting_moves, courted_moves, courted_kept}
 
 -- ---- steps of any kind
@@ -40,9 +41,10 @@ Within k P c = (k + 2 ≤ married_count c) ⊎ ((k ≤ married_count c) × P c)
 pub calm_stays : (k : ℕ) (P : Configuration → Type 0) → CalmStays P → Stays (Within k P)
 calm_stays k P stays c chosen l h p = grind (arith, nat_tests, married_kept, grows)
 
--- if a turn of i makes Q true as long as the steps are calm, it makes `Within k Q` true in all steps
-pub calm_brings : (k : ℕ) (P Q : Configuration → Type 0) (i : ℕ) → CalmBrings P Q i → Brings (Within k P) (Within k Q) i
-calm_brings k P Q i b = grind (arith, nat_tests, married_kept, grows)
+-- if P stays true in calm steps, and a turn of i makes Q true as long as the steps are calm, it makes `Within k` of both
+-- true in all steps
+pub calm_brings : (k : ℕ) (P Q : Configuration → Type 0) (i : ℕ) → CalmStays P → CalmBrings P Q i → Brings (Within k P) (Within k (λ c. P c × Q c)) i
+calm_brings k P Q i stays b = grind (arith, nat_tests, married_kept, grows)
 
 -- ---- the stages of a run
 
@@ -50,20 +52,17 @@ calm_brings k P Q i b = grind (arith, nat_tests, married_kept, grows)
 abbrev pub Any : Configuration → Type 0
 Any c = Unit {0}
 
--- a fact that always holds stays true in each step
-pub any_stays : Stays Any
-any_stays c chosen l h p = tt
-
 -- after its turn, a node has m false or is married
-pub modest_brings : (i : ℕ) → Brings Any (Modest i) i
-modest_brings i = grind (arith, nat_tests, modest_stays, modest_idle, modest_moves)
+pub modest_brings : (i : ℕ) → Brings Any (λ c. i < c.size → Modest i c) i
+modest_brings i = record {
+  stays = λ c chosen l h p q lt. modest_stays c chosen l h i (q lt);
+  idle = λ c l p e lt free. idle-settled c i l e ∙ free;
+  moves = λ c chosen r l h p e lt. modest_moves c chosen l h i r e;
+}
 
 -- if m is false at each node that isn't married, the same holds after each step
 pub modest_each : Stays (Each Modest)
 modest_each c chosen l h p i lt = modest_stays c chosen l h i (p i lt)
-
-pub upward_each : Stays (Each Upward)
-upward_each c chosen l h p i lt = upward_stays c chosen l h i (p i lt)
 
 -- each node that isn't married has m false, and points at no lower node
 pub record IsSettled (c : Configuration) : Type 0 where
@@ -72,7 +71,7 @@ pub record IsSettled (c : Configuration) : Type 0 where
 
 -- a settled configuration stays settled in each step
 pub settled_stays : Stays IsSettled
-settled_stays c chosen l h p = record { modest = modest_each c chosen l h p.modest; upward = upward_each c chosen l h p.upward }
+settled_stays c chosen l h p = record { modest = modest_each c chosen l h p.modest; upward = λ i lt. upward_stays c chosen l h i (p.upward i lt) }
 
 -- the configuration is settled, and each married node has m true
 pub record IsAware (c : Configuration) : Type 0 where
@@ -81,24 +80,15 @@ pub record IsAware (c : Configuration) : Type 0 where
 
 -- the configuration is aware, and no node that isn't married points at a married one
 pub record IsHopeful (c : Configuration) : Type 0 where
-  pub settled : IsSettled c
-  pub aware : Each Aware c
+  pub aware : IsAware c
   pub hopeful : Each Hopeful c
-
--- a settled configuration stays settled as long as the number of married nodes doesn't grow
-pub settled_calm : CalmStays IsSettled
-settled_calm c chosen l h calm p = settled_stays c chosen l h p
 
 -- an aware configuration stays aware as long as the number of married nodes doesn't grow
 pub aware_calm : CalmStays IsAware
 aware_calm c chosen l h calm p = record { settled = settled_stays c chosen l h p.settled; aware = λ i lt. aware_stays c chosen l h calm i (p.aware i lt) }
 
 pub hopeful_calm : CalmStays IsHopeful
-hopeful_calm c chosen l h calm p = record {
-  settled = settled_stays c chosen l h p.settled;
-  aware = λ i lt. aware_stays c chosen l h calm i (p.aware i lt);
-  hopeful = λ i lt. hopeful_stays c chosen l h calm i (p.hopeful i lt);
-}
+hopeful_calm c chosen l h calm p = record { aware = aware_calm c chosen l h calm p.aware; hopeful = λ i lt. hopeful_stays c chosen l h calm i (p.hopeful i lt) }
 
 -- the configuration is hopeful, and the linked nodes a and b aren't married
 pub record IsReady (a b : ℕ) (c : Configuration) : Type 0 where
@@ -129,7 +119,7 @@ upward_brings i = grind (arith, nat_tests, upward_stays, upward_idle, upward_mov
 -- in a settled configuration, a married node has m true after its turn, as long as the number of married nodes doesn't
 -- grow
 pub aware_brings : (i : ℕ) → CalmBrings IsSettled (λ c. i < c.size → Aware i c) i
-aware_brings i = grind (arith, nat_tests, aware_stays, aware_idle, aware_moves)
+aware_brings i = grind (arith, nat_tests, aware_stays, idle-settled, aware_moves)
 
 -- in an aware configuration, an unmarried node points at no married node after its turn, as long as the number of
 -- married nodes doesn't grow
@@ -140,17 +130,17 @@ hopeful_brings i = grind (arith, nat_tests, hopeful_stays, hopeful_idle, hopeful
 -- long as the number of married nodes doesn't grow
 pub courting_brings : (a b : ℕ) → CalmBrings (IsReady a b) IsCourting a
 courting_brings a b = record {
-  stays = λ c chosen l h calm p q. let k = p.before.settled in courting_stays c chosen l h calm k.modest k.upward p.before.hopeful q;
-  idle = λ c l p e. courting_idle c a b l p.before.settled.modest p.link e;
-  moves = λ c chosen r l h calm p e. let k = p.before.settled in courting_moves c chosen l h calm k.modest k.upward p.before.hopeful a b p.link r e;
+  stays = λ c chosen l h calm p q. let k = p.before.aware.settled in courting_stays c chosen l h calm k.modest k.upward p.before.hopeful q;
+  idle = grind (arith, nat_tests, no_open_link);
+  moves = λ c chosen r l h calm p e. let k = p.before.aware.settled in courting_moves c chosen l h calm k.modest k.upward p.before.hopeful a b p.link r e;
 }
 
 -- if t has a null pointer and a suitor, it can't have its turn without the number of married nodes growing
 pub wedding_brings : (s t : ℕ) → CalmBrings (IsWooed s t) Never t
 wedding_brings s t = record {
   stays = λ c chosen l h calm p q. q;
-  idle = λ c l p e. courted_idle c s t l p.pair e;
-  moves = λ c chosen r l h calm p e. let k = p.before.settled in courted_moves c chosen l h calm k.modest k.upward s t p.pair r e;
+  idle = λ c l p e. quiet-alone c s t l p.pair.suitor p.pair.null (idle-quiet c t l e);
+  moves = λ c chosen r l h calm p e. let k = p.before.aware.settled in courted_moves c chosen l h calm k.modest k.upward s t p.pair r e;
 }
 
 -- ---- if no node is married
@@ -171,7 +161,7 @@ dawning_calm a b c chosen l h calm p = grind (arith, nat_tests, modest_each, lon
 pub dawning_brings : (a b : ℕ) → CalmBrings (IsDawning a b) IsRising a
 dawning_brings a b = record {
   stays = λ c chosen l h calm p q. rising_stays c chosen l h calm p.modest p.lone q;
-  idle = λ c l p e. elim p.either [ inl up ↦ up | inr k ↦ absurd (facing_idle c a b l p.modest p.lone k e) ];
+  idle = grind (arith, nat_tests, no_open_link, quiet-alone, idle-quiet);
   moves = λ c chosen r l h calm p e. elim p.either [
     | inl up ↦ rising_stays c chosen l h calm p.modest p.lone up
     | inr k ↦ facing_moves c chosen l h calm p.modest p.lone a b k r e

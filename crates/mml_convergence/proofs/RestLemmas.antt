@@ -1,8 +1,10 @@
 -- If each node has an owner, a run can go on as long as some node is privileged. So in a run that is over, no node is.
-use Rattle.std.proofs.Common.{◌≡◌, ℕ, zero, suc, ◌<◌, true, false, ◌==◌, List, [], ◌∷◌, length, Option, None, Some, is_some, sym, refl, ap, ◌∙◌, arith}
+use Rattle.std.proofs.Common.{◌≡◌, ℕ, zero, suc, ◌<◌, ◌⊎◌, true, false, ◌==◌, List, [], ◌∷◌, length, inl, inr, Option, None, Some, is_some, sym, refl, ap, ◌∙◌, arith}
 use Rattle.std.specs.List.{list_any}
-use Rattle.std.proofs.lemmas.Bool.{false≢true, both_ways, or_left, eq-eqb, false_from_ne_true, Decides.nat_tests}
-use Rattle.mml_rules.specs.{declared.rule.Rule.Rule, Rules.guard, Rules.is_privileged, Matching.IsStable, Matching.IsMaximal}
+use Rattle.std.proofs.lemmas.Bool.{false≢true, both_ways, cases_Bool, or_left, eq-eqb, false_from_ne_true, Decides.nat_tests}
+use Rattle.mml_ids.specs.Search.{some_below}
+use Rattle.mml_ids.proofs.SearchLemmas.{some_below-find, some_below-none}
+use Rattle.mml_rules.specs.{declared.rule.Rule.Rule, Configuration.Configuration, Rules.guard, Rules.is_privileged, Matching.IsStable, Matching.IsMaximal}
 use Rattle.mml_rules.proofs.{EnabledKindLemmas.idle-guard, MeaningLemmas.privileged-means}
 use Rattle.mml_lab.specs.Rosters.{RosterValue, owners_of, owns}
 use Rattle.mml_board.specs.{declared.event.Event.Event, Events.is_any_chosen, Events.is_legal, Events.after, Runs.is_legal_list, Runs.world_of}
@@ -25,10 +27,7 @@ none_chosen (None ∷ xs) (suc i) e = none_chosen xs i e
 
 -- if a move is chosen for a node, some move is chosen
 pub any_chosen : (xs : List (Option Rule)) (i : ℕ) → is_some (chosen_at xs i) ≡ true → list_any is_some xs ≡ true
-any_chosen [] i e = absurd (false≢true e)
-any_chosen (Some r ∷ xs) i e = refl
-any_chosen (None ∷ xs) zero e = absurd (false≢true e)
-any_chosen (None ∷ xs) (suc i) e = any_chosen xs i e
+any_chosen xs i e = grind (arith, nat_tests, none_chosen xs i)
 
 -- ---- a privileged node has a move that may be granted
 
@@ -36,6 +35,13 @@ any_chosen (None ∷ xs) (suc i) e = any_chosen xs i e
 pub may_move : (r : RosterValue) (w : World) (i : ℕ) → IsWorld w → i < size w → is_privileged (configuration w) i ≡ true → chosen_at w.chosen i ≡ None
     → (rule : Rule) × ((s : ℕ) → owns r (who.Student s) i ≡ true → is_legal r w (event.Grant s i rule) ≡ true)
 may_move r w i k lt privileged none = grind (arith, nat_tests, privileged-means, owned_legal, grant_possible)
+
+-- no node is privileged, or some node is
+pub stable_or_privileged : (c : Configuration) → IsStable c ⊎ ((i : ℕ) × (i < c.size) × (is_privileged c i ≡ true))
+stable_or_privileged c = elim (cases_Bool (some_below c.size (is_privileged c))) [
+  | inl on ↦ inr (some_below-find c.size (is_privileged c) on)
+  | inr off ↦ inl (λ i lt. some_below-none c.size i (is_privileged c) off lt)
+]
 
 -- ---- if no node is privileged
 
@@ -47,17 +53,16 @@ stable_unchosen w k stable i = go (chosen_at w.chosen i) refl
   where
     go : (o : Option Rule) → chosen_at w.chosen i ≡ o → is_some (chosen_at w.chosen i) ≡ false
     go None e = ap is_some e
-    go (Some rule) e = absurd (both_ways (guard (configuration w) i rule) (stable_guard w k stable i rule (chosen_node w i k.choices (ap is_some e))) (k.hold i rule e))
+    go (Some rule) e = grind (arith, nat_tests, chosen_node w i k.choices, k.hold i rule e, stable_guard w k stable i rule)
+
+none_in : (xs : List (Option Rule)) → ((i : ℕ) → is_some (chosen_at xs i) ≡ false) → list_any is_some xs ≡ false
+none_in [] h = refl
+none_in (x ∷ xs) h = rw (h 0, none_in xs (λ i. h (suc i)))
 
 stable_unfit : (w : World) (e : Event) → IsWorld w → IsStable (configuration w) → is_of_step e ≡ true → is_fit w e ≡ false
 stable_unfit w (event.Grant s i rule) k stable of_step = grind (arith, nat_tests, stable_guard)
 stable_unfit w (event.Release i) k stable of_step = stable_unchosen w k stable i
-stable_unfit w event.Close k stable of_step = none (w.chosen) (stable_unchosen w k stable)
-  where
-    none : (xs : List (Option Rule)) → ((i : ℕ) → is_some (chosen_at xs i) ≡ false) → list_any is_some xs ≡ false
-    none [] h = refl
-    none (None ∷ xs) h = none xs (λ i. h (suc i))
-    none (Some x ∷ xs) h = absurd (false≢true (sym (h 0)))
+stable_unfit w event.Close k stable of_step = none_in w.chosen (stable_unchosen w k stable)
 stable_unfit w _ k stable of_step = absurd (false≢true of_step)
 
 -- if no node is privileged, no grant, release or close is legal
@@ -77,8 +82,8 @@ first_owner r i some = go (owners_of r i) refl some
 
 over_stable : (r : RosterValue) (w : World) → IsWorld w → EachHasOwner r (size w) → IsOver r w → IsStable (configuration w)
 over_stable r w k owned over i lt = false_from_ne_true (is_privileged (configuration w) i) (λ privileged.
-    let idle : is_any_chosen w ≡ false =
-    false_from_ne_true (is_any_chosen w) (λ any. both_ways (is_legal r w event.Close) over.no_close (owned_legal r w event.Close refl (close_possible w any))) in
+    let close = λ (any : is_any_chosen w ≡ true). owned_legal r w event.Close refl (close_possible w any) in
+    let idle : is_any_chosen w ≡ false = grind (arith, nat_tests, over.no_close, close) in
     let move = may_move r w i k lt privileged (none_chosen w.chosen i idle) in
     let owner = first_owner r i (owned i lt) in
     both_ways (is_legal r w (event.Grant owner.0 i move.0)) (over.no_grant owner.0 i move.0) (move.1 owner.0 owner.1))

@@ -1,5 +1,5 @@
 -- Grants, releases and closes: which facts they keep, and what holds after a round of them.
-use Rattle.std.proofs.Common.{◌≡◌, ℕ, ◌+◌, ◌<◌, inl, inr, true, ◌&&◌, List, [], ◌∷◌, ◌++◌, Option, None, Some, is_some, sym, refl, subst, arith}
+use Rattle.std.proofs.Common.{◌≡◌, ℕ, ◌+◌, ◌<◌, ◌≤◌, inl, inr, true, ◌&&◌, List, [], ◌∷◌, ◌++◌, Option, None, Some, is_some, sym, refl, subst, arith}
 use Rattle.std.specs.List.{list_all}
 use Rattle.std.proofs.lemmas.Bool.{and_parts, or_cases, not-true, false≢true, both_ways, cases_lt, Decides.nat_tests}
 use Rattle.mml_rules.specs.{declared.rule.Rule.Rule, Configuration.Configuration, Matching.IsStable}
@@ -8,7 +8,7 @@ use Rattle.mml_board.specs.{declared.event.Event.Event, World.World, World.size,
 use Rattle.mml_board.specs.Events.{is_legal, is_chosen, after}
 use Rattle.mml_board.proofs.{WorldLemmas.closed-step, WorldLemmas.after-world, ClausesLemmas.legal_possible}
 use Rattle.mml_convergence.specs.{Runs.is_of_step, Moves.is_close, Rounds.is_served, Rounds.IsRound}
-use Rattle.mml_convergence.proofs.{RestLemmas.stable_final, RestLemmas.same_size, MarriedCountLemmas.married_count}
+use Rattle.mml_convergence.proofs.{RestLemmas.stable_final, RestLemmas.same_size, MarriedCountLemmas.married_count, StagesLemmas.Each}
 use Rattle.mml_convergence.proofs.PhasesLemmas.{Stays, Brings, Within, CalmStays, CalmBrings, calm_stays, calm_brings}
 use Rattle.mml_board.specs.declared.event.Event.TheVariants as event
 
@@ -27,11 +27,9 @@ pub first_of_step : (r : RosterValue) (w : World) (e : Event) (es : List Event) 
 first_of_step r w e es k = (and_parts (is_of_step e) (list_all is_of_step es) k.of_step).0
 
 run_on : (r : RosterValue) (w : World) (e : Event) (es : List Event) → IsRun r w (e ∷ es) → IsRun r (after w e) es
-run_on r w e es k = record {
-  world = after-world w e k.world (legal_possible r w e (first_legal r w e es k));
-  legal = (and_parts (is_legal r w e) (is_legal_list r (after w e) es) k.legal).1;
-  of_step = (and_parts (is_of_step e) (list_all is_of_step es) k.of_step).1;
-}
+run_on r w e es k =
+    let world = after-world w e k.world (legal_possible r w e (first_legal r w e es k)) in
+    record { world = world; legal = (and_parts _ _ k.legal).1; of_step = (and_parts _ _ k.of_step).1 }
 
 -- if two joined lists are a run, each of them is a run
 pub run_parts : (r : RosterValue) (w : World) (es fs : List Event) → IsRun r w (es ++ fs) → IsRun r w es × IsRun r (world_of w es) fs
@@ -64,8 +62,10 @@ stays_over P stays r w (e ∷ es) k p = stays_over P stays r (after w e) es (run
 
 -- ---- what holds after a turn
 
-both_stay : (P Q : Configuration → Type 0) (i : ℕ) → Stays P → Brings P Q i → Stays (λ c. P c × Q c)
-both_stay P Q i stays b c chosen l h p = (stays c chosen l h p.0, b.stays c chosen l h p.0 p.1)
+both_stay : (P Q : Configuration → Type 0) (i : ℕ) → Stays P → Brings P Q i → (r : RosterValue) (w : World) (es : List Event) → IsRun r w es
+    → P (configuration w) → Q (configuration w) → Q (configuration (world_of w es))
+both_stay P Q i stays b r w es k p q =
+    (stays_over (λ c. P c × Q c) (λ c chosen l h x. (stays c chosen l h x.0, b.stays c chosen l h x.0 x.1)) r w es k (p, q)).1
 
 moved_after : (P Q : Configuration → Type 0) (i : ℕ) → Brings P Q i → (w : World) (e : Event) → IsWorld w → (is_close e && is_chosen w i) ≡ true
     → P (configuration w) → Q (configuration (after w e))
@@ -79,54 +79,46 @@ moved_after P Q i b w _ k e p = absurd (false≢true e)
 served : (P Q : Configuration → Type 0) (i : ℕ) → Stays P → Brings P Q i → (r : RosterValue) (w : World) (es : List Event) → IsRun r w es
     → P (configuration w) → is_served i w es ≡ true → Q (configuration (world_of w es))
 served P Q i stays b r w [] k p turn = b.idle (configuration w) k.world.network.lawful p (not-true _ turn)
-served P Q i stays b r w (e ∷ es) k p turn = elim (or_cases _ _ turn) [
-  | inl idle ↦ (stays_over (λ c. P c × Q c) (both_stay P Q i stays b) r w (e ∷ es) k (p, b.idle (configuration w) k.world.network.lawful p (not-true _ idle))).1
-  | inr later ↦
-      let next = stays_after P stays w e k.world (first_of_step r w e es k) p in
-      let on = run_on r w e es k in
-      elim (or_cases _ _ later) [
-        | inl moves ↦ (stays_over (λ c. P c × Q c) (both_stay P Q i stays b) r (after w e) es on (next, moved_after P Q i b w e k.world moves p)).1
-        | inr rest ↦ served P Q i stays b r (after w e) es on next rest
-      ]
-]
+served P Q i stays b r w (e ∷ es) k p turn =
+    let next = stays_after P stays w e k.world (first_of_step r w e es k) p in
+    let on = run_on r w e es k in
+    let idle = b.idle (configuration w) k.world.network.lawful p in
+    let moved = moved_after P Q i b w e k.world in
+    let now = both_stay P Q i stays b r w (e ∷ es) k p in
+    let then = both_stay P Q i stays b r (after w e) es on next in
+    grind (arith, nat_tests, or_cases, not-true, idle, moved, now, then, served P Q i stays b r (after w e) es on next)
 
 -- ---- what holds after a round
 
-abbrev End : World → List Event → Configuration
-End w es = configuration (world_of w es)
-
 -- after a round, Q i holds of each node i, if a turn of i makes it true
-pub round_brings : (P : Configuration → Type 0) (Q : ℕ → Configuration → Type 0) → Stays P → ((i : ℕ) → Brings P (Q i) i)
-    → (r : RosterValue) (w : World) (es : List Event) → IsRun r w es → IsRound w es → P (configuration w) → (i : ℕ) → i < size (world_of w es)
-    → Q i (configuration (world_of w es))
-round_brings P Q stays b r w es k round p i lt = served P (Q i) i stays (b i) r w es k p (round i (omega (arith, lt, same_size w es)))
+pub round_brings : (P : Configuration → Type 0) (Q : ℕ → Configuration → Type 0) → Stays P → ((i : ℕ) → Brings P (λ c. i < c.size → Q i c) i)
+    → (r : RosterValue) (w : World) (es : List Event) → IsRun r w es → IsRound w es → P (configuration w) → Each Q (configuration (world_of w es))
+round_brings P Q stays b r w es k round p i lt =
+    served P (λ c. i < c.size → Q i c) i stays (b i) r w es k p (round i (omega (arith, lt, same_size w es))) lt
 
--- after a round, Q i holds of each node i, or the number of married nodes has grown by two
-pub calm_round : (n : ℕ) (P : Configuration → Type 0) (Q : ℕ → Configuration → Type 0) → CalmStays P → ((i : ℕ) → CalmBrings P (Q i) i)
-    → (r : RosterValue) (w : World) (es : List Event) → IsRun r w es → IsRound w es → Within n P (configuration w)
-    → Within n (λ c. P c × ((i : ℕ) → i < c.size → Q i c)) (configuration (world_of w es))
-calm_round n P Q stays b r w es k round p =
-    let after = stays_over (Within n P) (calm_stays n P stays) r w es k p in
-    let each = round_brings (Within n P) (λ i. Within n (Q i)) (calm_stays n P stays) (λ i. calm_brings n P (Q i) i (b i)) r w es k round p in
-    elim after [
-      | inl more ↦ inl more
-      | inr q ↦ let le = q.0 in elim (cases_lt (married_count (configuration (world_of w es))) (n + 2)) [
-        | inr more ↦ inl more
-        | inl less ↦ inr (le, (q.1, λ i lt. elim (each i lt) [ inl more ↦ absurd (omega (arith, less, more)) | inr x ↦ x.1 ]))
-      ]
-    ]
-
--- after a round, Q holds if a turn of i makes it true, or the number of married nodes has grown by two
+-- after a round, P and Q hold if P stays true and a turn of i makes Q true, or the number of married nodes has grown by
+-- two
 pub calm_turn : (n : ℕ) (P Q : Configuration → Type 0) (i : ℕ) → CalmStays P → CalmBrings P Q i
     → (r : RosterValue) (w : World) (es : List Event) → IsRun r w es → IsRound w es → i < size w → Within n P (configuration w)
     → Within n (λ c. P c × Q c) (configuration (world_of w es))
 calm_turn n P Q i stays b r w es k round i_in p =
-    grind (
-      arith,
-      nat_tests,
-      stays_over (Within n P) (calm_stays n P stays) r w es k p,
-      served (Within n P) (Within n Q) i (calm_stays n P stays) (calm_brings n P Q i b) r w es k p (round i i_in),
-      Within,
-      calm_stays,
-      calm_brings,
-    )
+    served (Within n P) (Within n (λ c. P c × Q c)) i (calm_stays n P stays) (calm_brings n P Q i stays b) r w es k p (round i i_in)
+
+-- if fewer than n + 2 nodes are married, `Within n P` says that at least n are, and that P holds
+sure : (n : ℕ) (P : Configuration → Type 0) (c : Configuration) → married_count c < n + 2 → Within n P c → (n ≤ married_count c) × P c
+sure n P c less (inl more) = absurd (omega (arith, less, more))
+sure n P c less (inr x) = x
+
+-- after a round, P holds, and Q i of each node i, or the number of married nodes has grown by two
+pub calm_round : (n : ℕ) (P : Configuration → Type 0) (Q : ℕ → Configuration → Type 0) → CalmStays P → ((i : ℕ) → CalmBrings P (λ c. i < c.size → Q i c) i)
+    → (r : RosterValue) (w : World) (es : List Event) → IsRun r w es → IsRound w es → Within n P (configuration w)
+    → Within n (λ c. P c × Each Q c) (configuration (world_of w es))
+calm_round n P Q stays b r w es k round p = elim (cases_lt (married_count (configuration (world_of w es))) (n + 2)) [
+  | inr more ↦ inl more
+  | inl less ↦
+      let here = sure n P (configuration (world_of w es)) less (stays_over (Within n P) (calm_stays n P stays) r w es k p) in
+      inr (here.0, (here.1, λ i lt. (sure n (λ c. P c × (i < c.size → Q i c)) (configuration (world_of w es)) less (turn i lt)).1.1 lt))
+]
+  where
+    turn : (i : ℕ) → i < size (world_of w es) → Within n (λ c. P c × (i < c.size → Q i c)) (configuration (world_of w es))
+    turn i lt = calm_turn n P (λ c. i < c.size → Q i c) i stays (b i) r w es k round (omega (arith, lt, same_size w es)) p

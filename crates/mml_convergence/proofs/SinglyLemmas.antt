@@ -7,7 +7,7 @@ use Rattle.mml_ids.specs.Search.{count_below}
 use Rattle.mml_rules.specs.{declared.rule.Rule.Rule, Configuration.Configuration, Rules.is_privileged, Rules.guard, Rules.moved, Rules.effect}
 use Rattle.mml_lab.specs.Rosters.{RosterValue, owns}
 use Rattle.mml_board.specs.{declared.event.Event.Event, World.World, World.size, World.configuration, World.IsWorld, Events.is_chosen, Events.after, Runs.is_legal_list, Runs.world_of}
-use Rattle.mml_convergence.specs.{Moves.is_close, Moves.applied_over, Moves.count_closes, Rest.is_grant_or_close, Rounds.is_served, Rounds.Rounds}
+use Rattle.mml_convergence.specs.{Moves.is_close, Moves.applied_over, Moves.count_closes, Rest.is_grant_or_close, Rounds.is_served, Rounds.IsRound, Rounds.Rounds}
 use Rattle.mml_convergence.proofs.MoveLemmas.{GoesOn, IsQuiet, IsMoved, Move, move, after_move, is, kept, turned}
 use Rattle.mml_lab.specs.declared.who.Who.TheVariants as who
 use Rattle.mml_board.specs.declared.event.Event.TheVariants as event
@@ -78,8 +78,7 @@ module _ (A : World → ℕ → Type 0) (r : RosterValue) (s k n : ℕ) (c : Con
 
   part : (m : ℕ) (v : World) → m ≤ n → IsWorld v → IsQuiet v → IsMoved c (configuration v) (above t m) rule → Part m v
   part zero v le world quiet e =
-      let all : (i : ℕ) → i < c.size → above t 0 i ≡ t i = λ i lt. every i in
-      let rest = next v world quiet (grind (arith, nat_tests, configuration v, above t 0)) in
+      let rest = next v world quiet (grind (arith, nat_tests, every)) in
       record {
         front = [];
         back = rest.events;
@@ -101,14 +100,10 @@ module _ (A : World → ℕ → Type 0) (r : RosterValue) (s k n : ℕ) (c : Con
         let o = move r s v m rule world quiet (omega (arith, lt, e.size)) (owned m le) x.0 in
         with_one m v o on (part m (after_move s v m rule) (omega (arith, le)) o.world o.quiet
         (grind (arith, nat_tests, and_from, le-leb, turned, is, eq-eqb, cases_eq, kept, ne_eqb, configuration v, configuration (after_move s v m rule))))
-    | inr off ↦ grind (arith, nat_tests, is, part m v (omega (arith, le)) world quiet (grind (arith, nat_tests, configuration v, above t (suc m), above t m, same off)))
+    | inr off ↦
+        let rest = part m v (omega (arith, le)) world quiet (grind (arith, nat_tests, configuration v, above t (suc m), above t m, off)) in
+        grind (arith, nat_tests, is, rest)
   ]
-    where
-      same : t m ≡ false → (i : ℕ) → i < c.size → above t (suc m) i ≡ above t m i
-      same off i lt = grind (arith, nat_tests, off)
-
-      other : (i : ℕ) → i < suc m → t i ≡ true → t m ≡ false → i < m
-      other i lt is off = grind (arith, nat_tests)
 
 -- a round in which the rule is applied at each node that passes, one node for each close, if no other node is
 -- privileged
@@ -119,18 +114,14 @@ pub single_round : (A : World → ℕ → Type 0) (r : RosterValue) (s k n : ℕ
     → GoesOn A r w (suc k)
 single_round A r s k n t rule w world quiet sized owned stands others next =
     let x = part (λ v x. A v (count_below n t + x)) r s k n (configuration w) t rule sized owned stands next n w (omega arith) world quiet begun in
+    let round : IsRound w x.front =
+    λ i lt. elim (cases_Bool (t i)) [ inl on ↦ x.turns i (omega (arith, lt, sized)) on | inr off ↦ idle_served i w x.front (others i lt off) ] in
     record {
       events = x.front ++ x.back;
       legal = x.legal;
       forward = x.forward;
       alone = x.alone;
-      rounds = (
-        x.front,
-        x.back,
-        refl,
-        (λ i lt. elim (cases_Bool (t i)) [ inl on ↦ x.turns i (omega (arith, lt, sized)) on | inr off ↦ idle_served i w x.front (others i lt off) ]),
-        x.rounds,
-      );
+      rounds = (x.front, x.back, refl, round, x.rounds);
       ends = subst (λ z. A (world_of w (x.front ++ x.back)) z) (sym x.moves) x.ends;
     }
   where

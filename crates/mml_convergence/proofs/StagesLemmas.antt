@@ -1,12 +1,12 @@
 -- What a step does to a node that isn't married, and to a married one.
 use Rattle.std.proofs.Common.{◌≡◌, ℕ, zero, suc, ◌+◌, ◌<◌, ◌≤◌, ◌⊎◌, inl, inr, Bool, true, false, not, Option, None, Some, sym, refl, ap, ◌∙◌, arith}
-use Rattle.std.proofs.lemmas.Bool.{both_ways, false≢true, false_from_ne_true, cases_Bool, cases_order, Decides.nat_tests}
+use Rattle.std.proofs.lemmas.Bool.{both_ways, false≢true, false_from_ne_true, cases_Bool, Decides.nat_tests}
 use Rattle.mml_rules.specs.{declared.rule.Rule.Rule, Configuration.Configuration, Configuration.IsLawful, Configuration.holds}
 use Rattle.mml_rules.specs.Rules.{is_married, is_privileged, guard, effect, moved, step, AllHold}
 use Rattle.mml_rules.proofs.{ConfigurationLemmas.holds-true, StepLemmas.step-lawful}
 use Rattle.mml_rules.proofs.RulesLemmas.{married-null, married-at, married-from, suitor-from, pointee_in}
 use Rattle.mml_convergence.proofs.{StepLemmas.step-free, StepLemmas.moved-m, PotentialLemmas.suitor_kept, MarriedCountLemmas.Calm, MarriedCountLemmas.apart}
-use Rattle.mml_stable.proofs.MatchingLemmas.{idle-quiet, idle-settled, quiet-vain, quiet-alone, no_open_link}
+use Rattle.mml_stable.proofs.MatchingLemmas.{idle-quiet, quiet-vain}
 use Rattle.mml_convergence.proofs.MovesLemmas.{updates, marries, seduces, seduced, abandons, abandoned, makes}
 
 -- ---- facts about a node
@@ -82,6 +82,11 @@ effect_right c i r g = grind (arith, nat_tests, marries, seduced, seduces, aband
 lets_go : (c : Configuration) (i j k : ℕ) (r : Rule) → guard c i r ≡ true → is_married c i ≡ false → c.m i ≡ false → c.p i ≡ Some j → (effect c i r).p ≡ Some k → ⊥
 lets_go c i j k r g free off e to = grind (arith, nat_tests, self, updates, marries, seduced, seduces)
 
+-- if the pointer of an unmarried node with m false is null after its move, the node pointed at another before
+drops : (c : Configuration) (i : ℕ) (r : Rule) → guard c i r ≡ true → is_married c i ≡ false → c.m i ≡ false → (effect c i r).p ≡ None
+    → (j : ℕ) × (c.p i ≡ Some j)
+drops c i r g free off none = grind (arith, nat_tests, self, updates, seduced, abandoned)
+
 -- ---- following pointers upwards
 
 pub courted_free : (c : Configuration) (s t : ℕ) → IsLawful c → IsCourted s t c → is_married c s ≡ false
@@ -105,35 +110,14 @@ courted c l upward hopeful k = climb c.size k.who k.whom c l upward hopeful (ome
 
 -- ---- if node i isn't privileged
 
--- if node i isn't privileged and isn't married, m is false
-pub modest_idle : (c : Configuration) (i : ℕ) → IsLawful c → is_privileged c i ≡ false → Modest i c
-modest_idle c i l idle free = idle-settled c i l idle ∙ free
-
 -- if node i isn't privileged and isn't married, it points at no lower node
 pub upward_idle : (c : Configuration) (i : ℕ) → IsLawful c → is_privileged c i ≡ false → Upward i c
 upward_idle c i l idle free j e = (quiet-vain c i j l (idle-quiet c i l idle) e free).1
 
--- a married node that isn't privileged has m true
-pub aware_idle : (c : Configuration) (i : ℕ) → IsLawful c → is_privileged c i ≡ false → Aware i c
-aware_idle c i l idle on = idle-settled c i l idle ∙ on
-
 -- if married nodes have m true, an unmarried node that isn't privileged points at no married one
 pub hopeful_idle : (c : Configuration) (i : ℕ) → IsLawful c → Each Aware c → is_privileged c i ≡ false → Hopeful i c
-hopeful_idle c i l aware idle free j e = false_from_ne_true (is_married c j) (λ on.
-    both_ways (c.m j) (quiet-vain c i j l (idle-quiet c i l idle) e free).0 (aware j (pointee_in c i j l e) on))
-
--- if a and its higher neighbour b aren't married, and a isn't privileged, some unmarried node points at a node
-pub courting_idle : (c : Configuration) (a b : ℕ) → IsLawful c → Each Modest c → IsOpen a b c → is_privileged c a ≡ false → IsCourting c
-courting_idle c a b l modest k idle = grind (arith, nat_tests, no_open_link)
-
--- a node with a null pointer and a suitor is privileged
-pub courted_idle : (c : Configuration) (s t : ℕ) → IsLawful c → IsCourted s t c → is_privileged c t ≡ false → ⊥
-courted_idle c s t l k idle = quiet-alone c s t l k.suitor k.null (idle-quiet c t l idle)
-
--- if no node is married, the pointer of a is null, and its higher neighbour b points at a or at no node, then a is
--- privileged
-pub facing_idle : (c : Configuration) (a b : ℕ) → IsLawful c → Each Modest c → IsLone c → IsFacing a b c → is_privileged c a ≡ false → ⊥
-facing_idle c a b l modest lone k idle = grind (arith, nat_tests, no_open_link, quiet-alone, idle-quiet)
+hopeful_idle c i l aware idle free j e =
+    grind (arith, nat_tests, false_from_ne_true, both_ways, quiet-vain c i j l (idle-quiet c i l idle) e free, pointee_in c i j l e, aware j)
 
 -- ---- a step
 
@@ -162,22 +146,20 @@ module _ (c : Configuration) (chosen : ℕ → Option Rule) (l : IsLawful c) (h 
       let made = makes c i j (chosen i) (h i) off to in
       elim made.partner [
         | inr higher ↦ higher.0
-        | inl suitor ↦ elim (cases_order i j) [
-          | inl same ↦ absurd (apart c i j l (l.symmetric j i (l.to_linked j i suitor)) same)
-          | inr o ↦ elim o [
-            | inl up ↦ up
-            | inr down ↦ absurd
-                (both_ways (is_married next i) free (married-from next i j (step-lawful c chosen l h) to
-                (suitor_stays i j suitor (made.right ∙ married-null c i made.null) down)))
-          ]
-        ]
+        | inl suitor ↦
+            let off = made.right ∙ married-null c i made.null in
+            let married = λ (down : j < i). married-from next i j (step-lawful c chosen l h) to (suitor_stays i j suitor off down) in
+            let linked = l.symmetric j i (l.to_linked j i suitor) in
+            omega (arith, apart c i j l linked, λ (down : j < i). both_ways (is_married next i) free (married down))
       ]
 
   -- if a node moved and isn't married after the step, its pointer is null or new
   pointer_new : (i j : ℕ) (r : Rule) → Modest i c → chosen i ≡ Some r → is_married next i ≡ false → next.p i ≡ Some j → holds (c.p i) j ≡ false
-  pointer_new i j r modest e free to = false_from_ne_true (holds (c.p i) j) (λ on.
-      let alone = free_before i free in
-      lets_go c i j j r (h i r e) alone (modest alone) (holds-true (c.p i) j on) (sym (ap (λ o. (moved c i o).p) e) ∙ to))
+  pointer_new i j r modest e free to =
+      grind (arith, nat_tests, free_before i free, lets_go c i j j r (h i r e), holds-true (c.p i) j, ap (λ o. (moved c i o).p) e)
+
+  dropped : (i : ℕ) (r : Rule) → chosen i ≡ Some r → is_married c i ≡ false → c.m i ≡ false → next.p i ≡ None → (j : ℕ) × (c.p i ≡ Some j)
+  dropped i r e free off none = drops c i r (h i r e) free off (sym (ap (λ o. (moved c i o).p) e) ∙ none)
 
   -- ---- m is false at unmarried nodes
 
@@ -190,10 +172,7 @@ module _ (c : Configuration) (chosen : ℕ → Option Rule) (l : IsLawful c) (h 
   -- ---- unmarried nodes point at no lower node
 
   pub upward_stays : (i : ℕ) → Upward i c → Upward i next
-  upward_stays i upward free j to = elim (cases_Bool (holds (c.p i) j)) [
-    | inl on ↦ upward (free_before i free) j (holds-true (c.p i) j on)
-    | inr off ↦ made_up i j free off to
-  ]
+  upward_stays i upward free j to = grind (arith, nat_tests, cases_Bool, upward (free_before i free) j, holds-true (c.p i) j, made_up i j free)
 
   pub upward_moves : (i : ℕ) (r : Rule) → Modest i c → chosen i ≡ Some r → Upward i next
   upward_moves i r modest e free j to = made_up i j free (pointer_new i j r modest e free to) to
@@ -223,8 +202,7 @@ module _ (c : Configuration) (chosen : ℕ → Option Rule) (l : IsLawful c) (h 
     courted_stays : Each Modest c → Each Upward c → (s t : ℕ) → IsCourted s t c → next.p s ≡ Some t
     courted_stays modest upward s t k =
         let range = l.in_range s t (l.to_linked s t k.suitor) in
-        let free = courted_free c s t l k in
-        suitor_stays t s k.suitor (modest t range.1 (married-null c t k.null)) (upward s range.0 free t k.suitor)
+        grind (arith, nat_tests, range, courted_free c s t l k, suitor_stays t s k.suitor, married-null c t k.null)
 
     pub courting_stays : Each Modest c → Each Upward c → Each Hopeful c → IsCourting c → IsCourting next
     courting_stays modest upward hopeful k = grind (arith, nat_tests, courted, free_after, courted_free, courted_stays)
@@ -232,36 +210,27 @@ module _ (c : Configuration) (chosen : ℕ → Option Rule) (l : IsLawful c) (h 
     pub courting_moves : Each Modest c → Each Upward c → Each Hopeful c → (a b : ℕ) → IsOpen a b c → (r : Rule) → chosen a ≡ Some r → IsCourting next
     courting_moves modest upward hopeful a b k r e = go (next.p a) refl
       where
-        by_rule : (r : Rule) → guard c a r ≡ true → (effect c a r).p ≡ None → IsCourting next
-        by_rule Rule.Update g none = absurd (self (is_married c a) (k.low ∙ sym (modest a (l.in_range a b k.linked).0 k.low) ∙ updates c a g))
-        by_rule (Rule.Marriage j) g none = cc
-        by_rule Rule.Seduction g none = let s = seduced c a g in let some = s.1 in cc
-        by_rule Rule.Abandonment g none = grind (arith, nat_tests, abandoned c a g, courting_stays)
-
         go : (o : Option ℕ) → next.p a ≡ o → IsCourting next
         go (Some y) f = record { who = a; whom = y; free = free_after a k.low; points = f }
-        go None f = by_rule r (h a r e) (sym (ap (λ o. (moved c a o).p) e) ∙ f)
+        go None f =
+            let x = dropped a r e k.low (modest a (l.in_range a b k.linked).0 k.low) f in
+            courting_stays modest upward hopeful (record { who = a; whom = x.0; free = k.low; points = x.1 })
 
     -- a node with a null pointer and a suitor can't move without being newly married
     pub courted_moves : Each Modest c → Each Upward c → (s t : ℕ) → IsCourted s t c → (r : Rule) → chosen t ≡ Some r → ⊥
-    courted_moves modest upward s t k r e = by_rule r (h t r e) (ap (λ o. (moved c t o).p) e)
+    courted_moves modest upward s t k r e =
+        let suitor = suitor-from c t s l (l.symmetric s t (l.to_linked s t k.suitor)) k.suitor in
+        let off = modest t (l.in_range s t (l.to_linked s t k.suitor)).1 free in
+        grind (arith, nat_tests, h t r e, ap (λ o. (moved c t o).p) e, free, off, updates, marries, lower, higher, suitor, abandoned)
       where
         free : is_married c t ≡ false
         free = married-null c t k.null
 
-        off : c.m t ≡ false
-        off = modest t (l.in_range s t (l.to_linked s t k.suitor)).1 free
+        lower : (j : ℕ) → c.p j ≡ Some t → j < t
+        lower j to = let alone = courted_free c j t l (record { suitor = to; null = k.null }) in upward j (l.in_range j t (l.to_linked j t to)).0 alone t to
 
-        by_rule : (r : Rule) → guard c t r ≡ true → next.p t ≡ (effect c t r).p → ⊥
-        by_rule Rule.Update g to = self (is_married c t) (free ∙ sym off ∙ updates c t g)
-        by_rule (Rule.Marriage j) g to =
-            let m = marries c t j g in
-            let range = l.in_range j t (l.to_linked j t m.suitor) in
-            let alone = courted_free c j t l (record { suitor = m.suitor; null = k.null }) in
-            let up = upward j range.0 alone t m.suitor in
-            both_ways (is_married next t) (free_after t free) (married-from next t j (step-lawful c chosen l h) to (suitor_stays t j m.suitor off up))
-        by_rule Rule.Seduction g to = grind (arith, suitor-from c t s l (l.symmetric s t (l.to_linked s t k.suitor)) k.suitor)
-        by_rule Rule.Abandonment g to = let a = abandoned c t g in let some = a.1 in let null = k.null in cc
+        higher : (j : ℕ) → next.p t ≡ Some j → t < j
+        higher j = made_up t j (free_after t free) (ap (λ o. holds o j) k.null)
 
     pub courted_kept : Each Modest c → Each Upward c → (s t : ℕ) → IsCourted s t c → IsCourted s t next
     courted_kept modest upward s t k = grind (arith, nat_tests, courted_stays, courted_moves)
@@ -274,34 +243,26 @@ module _ (c : Configuration) (chosen : ℕ → Option Rule) (l : IsLawful c) (h 
         let range = l.in_range k.who k.whom (l.to_linked k.who k.whom k.points) in
         record { who = k.who; whom = k.whom; points = suitor_stays k.whom k.who k.points (modest k.whom range.1 (lone k.whom)) k.up; up = k.up }
 
+    -- a new pointer leads to a higher node
+    rises : IsLone c → (i j : ℕ) → next.p i ≡ Some j → holds (c.p i) j ≡ false → IsRising next
+    rises lone i j to off = record { who = i; whom = j; points = to; up = made_up i j (free_after i (lone i)) off to }
+
     -- if the pointer of a is null, its higher neighbour b points at a or at no node, and a moves, some node then points
     -- at a higher one
     pub facing_moves : Each Modest c → IsLone c → (a b : ℕ) → IsFacing a b c → (r : Rule) → chosen a ≡ Some r → IsRising next
     facing_moves modest lone a b k r e = go (next.p a) refl
       where
-        by_rule : (r : Rule) → guard c a r ≡ true → (effect c a r).p ≡ None → IsRising next
-        by_rule Rule.Update g none = absurd (self (is_married c a) (lone a ∙ sym (modest a (l.in_range a b k.linked).0 (lone a)) ∙ updates c a g))
-        by_rule (Rule.Marriage j) g none = cc
-        by_rule Rule.Seduction g none = let s = seduced c a g in let some = s.1 in cc
-        by_rule Rule.Abandonment g none = let s = abandoned c a g in let some = s.1 in let null = k.null in cc
-
         go : (o : Option ℕ) → next.p a ≡ o → IsRising next
-        go (Some z) f = record { who = a; whom = z; points = f; up = made_up a z (free_after a (lone a)) (ap (λ o. holds o z) k.null) f }
-        go None f = by_rule r (h a r e) (sym (ap (λ o. (moved c a o).p) e) ∙ f)
+        go (Some z) f = rises lone a z f (ap (λ o. holds o z) k.null)
+        go None f = let x = dropped a r e (lone a) (modest a (l.in_range a b k.linked).0 (lone a)) f in let some = x.1 in let null = k.null in cc
 
     pub facing_stays : Each Modest c → IsLone c → (a b : ℕ) → IsFacing a b c → IsRising next ⊎ IsFacing a b next
-    facing_stays modest lone a b k = go (chosen a) refl
+    facing_stays modest lone a b k = go (chosen a) (next.p b) refl refl
       where
-        kept : next.p a ≡ None → (o : Option ℕ) → next.p b ≡ o → IsRising next ⊎ IsFacing a b next
-        kept null None f = inr (record { linked = k.linked; up = k.up; null = null; either = inl f })
-        kept null (Some z) f = elim (cases_Bool (holds (c.p b) z)) [
-          | inr off ↦ inl (record { who = b; whom = z; points = f; up = made_up b z (free_after b (lone b)) off f })
-          | inl on ↦ grind (arith, nat_tests, both_ways, holds-true)
-        ]
-
-        go : (o : Option Rule) → chosen a ≡ o → IsRising next ⊎ IsFacing a b next
-        go None e = kept (ap (λ o. (moved c a o).p) e ∙ k.null) (next.p b) refl
-        go (Some r) e = inl (facing_moves modest lone a b k r e)
+        go : (o : Option Rule) (p : Option ℕ) → chosen a ≡ o → next.p b ≡ p → IsRising next ⊎ IsFacing a b next
+        go (Some r) p e f = inl (facing_moves modest lone a b k r e)
+        go None None e f = inr (record { linked = k.linked; up = k.up; null = ap (λ o. (moved c a o).p) e ∙ k.null; either = inl f })
+        go None (Some z) e f = grind (arith, nat_tests, ap (λ o. (moved c a o).p) e ∙ k.null, f, cases_Bool, holds-true, rises lone b z f)
 
     pub lone_stays : IsLone c → IsLone next
     lone_stays lone i = free_after i (lone i)

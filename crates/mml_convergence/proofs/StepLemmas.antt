@@ -13,12 +13,13 @@ beq-false a b h = grind arith
 pub answered-keeps : (c : Configuration) (i j : ℕ) (r : Rule) → c.p i ≡ Some j → c.p j ≡ Some i → guard c i r ≡ true → (effect c i r).p ≡ Some j
 answered-keeps c i j r a b h = grind (arith, nat_tests, none-null, holds-from)
 
-moved-keeps : (c : Configuration) (i j : ℕ) (o : Option Rule) → ((r : Rule) → o ≡ Some r → guard c i r ≡ true) → c.p i ≡ Some j → c.p j ≡ Some i → (moved c i o).p ≡ Some j
-moved-keeps c i j o h a b = grind (arith, nat_tests, answered-keeps)
+-- a node of a pair keeps its pointer in a step
+pub moved_keeps : (c : Configuration) (i j : ℕ) (o : Option Rule) → ((r : Rule) → o ≡ Some r → guard c i r ≡ true) → c.p i ≡ Some j → c.p j ≡ Some i → (moved c i o).p ≡ Some j
+moved_keeps c i j o h a b = grind (arith, nat_tests, answered-keeps)
 
 -- a step keeps every pair
-pub step-keeps : (c : Configuration) (chosen : ℕ → Option Rule) → AllHold c chosen → (i j : ℕ) → IsPair c i j → IsPair (step c chosen) i j
-step-keeps c chosen h i j e = (moved-keeps c i j (chosen i) (h i) e.0 e.1, moved-keeps c j i (chosen j) (h j) e.1 e.0)
+pub step_keeps : (c : Configuration) (chosen : ℕ → Option Rule) → AllHold c chosen → (i j : ℕ) → IsPair c i j → IsPair (step c chosen) i j
+step_keeps c chosen h i j e = (moved_keeps c i j (chosen i) (h i) e.0 e.1, moved_keeps c j i (chosen j) (h j) e.1 e.0)
 
 -- an upper bound on how often m may still change at a node, given its m and whether it is married
 abbrev pub weight : Bool → Bool → ℕ
@@ -39,7 +40,7 @@ moved-m c i o h = grind (arith, nat_tests, beq-false, not-true)
 pub step-married : (c : Configuration) (chosen : ℕ → Option Rule) → IsLawful c → AllHold c chosen → (i : ℕ) → is_married c i ≡ true → is_married (step c chosen) i ≡ true
 step-married c chosen l h i e =
     let r = married-partner c i e in
-    let k = step-keeps c chosen h i r.0 (r.1, r.2) in
+    let k = step_keeps c chosen h i r.0 (r.1, r.2) in
     married-from (step c chosen) i r.0 (step-lawful c chosen l h) k.0 k.1
 
 -- a node that is free after a step was free before

@@ -1,5 +1,5 @@
 -- Sums and counts below a number.
-use Rattle.std.proofs.Common.{◌≡◌, ℕ, zero, suc, ◌+◌, ◌*◌, ◌<◌, ◌≤◌, Bool, true, false, cond, ◌&&◌, refl, arith}
+use Rattle.std.proofs.Common.{◌≡◌, ℕ, zero, suc, ◌+◌, ◌*◌, ◌-◌, ◌<◌, ◌≤◌, Bool, true, false, cond, nat_lt, ◌&&◌, ◌||◌, ◌==◌, refl, arith}
 use Rattle.std.proofs.lemmas.Bool.Decides.{nat_tests}
 use Rattle.mml_ids.specs.Search.{count_below}
 use Rattle.mml_convergence.specs.Potential.{sum_below}
@@ -76,3 +76,24 @@ sum_split (suc n) f g = omega (arith, sum_split n f g)
 pub sum_of_tests : (n : ℕ) (t : ℕ → Bool) → sum_below n (λ i. cond (t i) 1 0) ≡ count_below n t
 sum_of_tests zero t = refl
 sum_of_tests (suc n) t = omega (arith, sum_of_tests n t)
+
+-- ---- the numbers between two bounds, and those that pass one of two tests
+
+module _ (a z : ℕ) (t : ℕ → Bool) (le : a ≤ z) (on : (i : ℕ) → a ≤ i → i < z → t i ≡ true) (only : (i : ℕ) → t i ≡ true → (a ≤ i) × (i < z)) where
+  -- the numbers below n that pass, and those that are less than a or at least z, are n numbers together
+  within : (n : ℕ) → count_below n t + cond (nat_lt n a) n (cond (nat_lt n z) a (n - (z - a))) ≡ n
+  within zero = grind (arith, nat_tests)
+  within (suc n) = grind (arith, nat_tests, within n, on n, only n)
+
+  -- if n is at least z, z - a numbers below n pass
+  pub count_between : (n : ℕ) → z ≤ n → a + count_below n t ≡ z
+  count_between n past = grind (arith, nat_tests, within n)
+
+-- exactly one number below n is i
+pub count_one : (i n : ℕ) → i < n → count_below n (λ j. j == i) ≡ 1
+count_one i n lt = omega (arith, count_between i (suc i) (λ j. j == i) (omega arith) (grind (arith, nat_tests)) (grind (arith, nat_tests)) n lt)
+
+-- if no number passes both tests, the count of the numbers that pass either test is the sum of the two counts
+pub count_either : (n : ℕ) (t u : ℕ → Bool) → ((i : ℕ) → t i ≡ true → u i ≡ false) → count_below n (λ i. t i || u i) ≡ count_below n t + count_below n u
+count_either zero t u apart = refl
+count_either (suc n) t u apart = grind (arith, count_either n t u apart, apart n)

@@ -23,26 +23,17 @@ courting_fell c chosen l h =
           let paid = sum_lent c.size (node_part (step c chosen)) (λ i. cond (moves chosen i) 1 0) (node_part c)
           (λ i. cond (is_married (step c chosen) i) (cond (is_married c i) 0 1) 2) (lent_pays c chosen l h) in
           let lent = count_lent c.size (is_married c) (is_married (step c chosen)) (step-married c chosen l h) in
-          let less : free_count (step c chosen) + 2 ≤ free_count c = omega (arith, two, before, after) in
-          omega (arith, counted, before, after, paid, lent, marriages_pay (free_count (step c chosen)) (free_count c) less)
+          omega (arith, counted, before, after, paid, lent, marriages_pay (free_count (step c chosen)) (free_count c) (omega (arith, two, before, after)))
       | inr calm ↦
           let paid = sum_charged c.size (λ i. cond (moves chosen i) 1 0) (node_part (step c chosen)) (node_part c) (calm_pays c chosen l h calm) in
           let kept = married_kept c chosen l h in
-          let fewer : free_count (step c chosen) ≤ free_count c = omega (arith, kept, before, after) in
-          omega (arith, counted, paid, courtships_kept (free_count (step c chosen)) (free_count c) fewer)
+          omega (arith, counted, paid, courtships_kept (free_count (step c chosen)) (free_count c) (omega (arith, kept, before, after)))
     ]
-
-part_most : (c : Configuration) (i : ℕ) → node_part c i ≤ 3
-part_most c i = grind (arith, pointer_most c i)
 
 parts_most : (n : ℕ) (c : Configuration) → sum_below n (node_part c) ≤ 3 * n
 parts_most zero c = omega arith
-parts_most (suc n) c = let rest = parts_most n c in let last = part_most c n in omega (arith, rest, last)
+parts_most (suc n) c = grind (arith, parts_most n c, pointer_most c n)
 
 pub courting_most : (c : Configuration) → courting_potential c ≤ 3 * c.size + 2 * most_courtships c.size
 unfolding courting_potential
-courting_most c =
-    let parts = parts_most c.size c in
-    let counted = count_both c.size (is_married c) in
-    let fewer : free_count c ≤ c.size = omega (arith, counted) in
-    omega (arith, parts, courtships_kept (free_count c) c.size fewer)
+courting_most c = omega (arith, parts_most c.size c, courtships_kept (free_count c) c.size (omega (arith, count_both c.size (is_married c))))

@@ -1,8 +1,8 @@
 -- The sum of all potentials falls in a step by at least the number of moves. The sum is at most 2 for each link and 3
 -- for each node.
-use Rattle.std.proofs.Common.{◌≡◌, ◌==◌, ℕ, zero, suc, ◌+◌, ◌*◌, ◌<◌, ◌≤◌, Bool, true, false, cond, not, ◌&&◌, Option, None, Some, is_some, inl, inr, refl, sym, ap, arith, nat_lt}
+use Rattle.std.proofs.Common.{◌≡◌, ℕ, zero, suc, ◌+◌, ◌*◌, ◌<◌, ◌≤◌, Bool, true, false, cond, ◌&&◌, Option, None, Some, is_some, inl, inr, refl, sym, arith, nat_lt}
 use Rattle.std.specs.Option.{option_map_or}
-use Rattle.std.proofs.lemmas.Bool.{and_parts, and_from, and_right, ltb-true, lt-ltb, le-ltb, eqb-true, eq-eqb, false_from_ne_true, cases_Bool, Decides.nat_tests}
+use Rattle.std.proofs.lemmas.Bool.{and_parts, and_right, ltb-true, lt-ltb, le-ltb, eqb-true, false_from_ne_true, cases_Bool, Decides.nat_tests}
 use Rattle.mml_ids.specs.Search.{count_below}
 use Rattle.mml_ids.proofs.SearchLemmas.{same_bool}
 use Rattle.mml_rules.specs.{declared.rule.Rule.Rule, Configuration.Configuration, Configuration.IsLawful, Configuration.holds, Rules.is_married, Rules.step, Rules.AllHold}
@@ -20,20 +20,7 @@ charge chosen n i = cond (pays (chosen i) i) 1 0 + count_below n (λ k. marries_
 
 -- each move is charged to its node, or to the lower node that it marries
 one_charged : (o : Option Rule) (k n : ℕ) → k < n → cond (is_some o) 1 0 ≤ cond (pays o k) 1 0 + count_below n (marries_lower o k)
-one_charged (Some (Rule.Marriage j)) k n lt = go (nat_lt j k) refl
-  where
-    go : (b : Bool) → nat_lt j k ≡ b → 1 ≤ cond (not b) 1 0 + count_below n (marries_lower (Some (Rule.Marriage j)) k)
-    go true lower =
-        let below = ltb-true j k lower in
-        grind (
-          arith,
-          nat_tests,
-          count_some n j (marries_lower (Some (Rule.Marriage j)) k) (omega arith) (and_from (j == j) (nat_lt j k) (eq-eqb j j refl) lower),
-          marries_lower,
-          and_from,
-          eq-eqb,
-        )
-    go false up = omega arith
+one_charged (Some (Rule.Marriage j)) k n lt = grind (arith, nat_tests, count_some n j (marries_lower (Some (Rule.Marriage j)) k))
 one_charged _ k n lt = omega arith
 
 all_charged : (chosen : ℕ → Option Rule) (n : ℕ) → count_below n (moves chosen) ≤ sum_below n (charge chosen n)
@@ -62,8 +49,7 @@ one_pointer c i n (Some k) = elim (cases_Bool (nat_lt k i)) [
   | inr up ↦
       let once =
       count_one_at_most n k (λ j. is_above c i j && holds (Some k) j) (λ j e. sym (eqb-true k j (and_parts (is_above c i j) (holds (Some k) j) e).1)) in
-      let none : cond {A = ℕ} (nat_lt k i) 1 0 ≡ 0 = ap (λ b. cond b 1 0) up in
-      omega (arith, once, none)
+      grind (arith, nat_tests, once, up)
 ]
 
 pub potential_most : (c : Configuration) (i : ℕ) → potential c i ≤ 3 + 2 * count_below c.size (is_above c i)
@@ -79,19 +65,8 @@ and_on x y e = grind (arith, nat_tests)
 pub counted_above : (c : Configuration) (n : ℕ) → IsLawful c → sum_below n (λ i. count_below n (is_above c i)) ≡ links_below c n
 counted_above c zero l = refl
 counted_above c (suc n) l =
-    grind (
-      arith,
-      nat_tests,
-      counted_above c n l,
-      one_column (is_above c) n n,
-      count_none (suc n) (is_above c n) (λ j lt. and_right (c.linked n j) (nat_lt n j) (le-ltb n j (omega arith))),
-      and_right,
-      le-ltb,
-      count_same,
-      and_on,
-      lt-ltb,
-      same_bool,
-    )
+    let none = count_none (suc n) (is_above c n) (λ j lt. and_right (c.linked n j) (nat_lt n j) (le-ltb n j (omega arith))) in
+    grind (arith, nat_tests, counted_above c n l, one_column (is_above c) n n, none, count_same, and_on, lt-ltb, same_bool)
 
 -- the sum of all potentials is at most 2 for each link and 3 for each node
 pub whole_most : (c : Configuration) → IsLawful c → whole_potential c ≤ 2 * links_below c c.size + 3 * c.size

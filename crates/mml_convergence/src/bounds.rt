@@ -39,6 +39,7 @@ ghost use Rattle.mml_convergence.specs.Comb.{comb_world};
 
 /// On n nodes with L links, a legal list of grants, releases and closes applies at most 3n + 2 min(L, n²/4) moves, with
 /// n²/4 rounded down. The bound holds from any world, and however the moves are chosen.
+#[tactic(auto, using(crate::proofs::AppliedLemmas::moves_few))]
 pub fn moves_are_few()
     ensures { (r : RosterValue) (w : World) (es : List Event) → IsWorld w →
         is_legal_list r w es ≡ true → list_all is_of_step es ≡ true →
@@ -47,6 +48,7 @@ pub fn moves_are_few()
 
 /// A courtship is a pointer of an unmarried node at a higher unmarried node whose m is false. `most_courtships n` is
 /// the greatest number of courtships among n unmarried nodes: n²/4, rounded down.
+#[tactic(auto, using(crate::proofs::NumbersLemmas::courtships_even, crate::proofs::NumbersLemmas::courtships_odd))]
 pub fn courtships_in_numbers()
     ensures even { (k : ℕ) → most_courtships (2 * k) ≡ k * k }
     ensures odd { (k : ℕ) → most_courtships (2 * k + 1) ≡ k * k + k }
@@ -56,6 +58,7 @@ pub fn courtships_in_numbers()
 /// each node, of at most 3, and of 2 for each courtship that is possible among the unmarried nodes. The part of an
 /// unmarried node is least if it courts another one. A step of moves whose guards hold lowers the potential by at least
 /// the number of nodes that move. For n nodes the potential is at most 3n + 2k, where k is n²/4, rounded down.
+#[tactic(auto, using(crate::proofs::WholeLemmas::courting_fell, crate::proofs::WholeLemmas::courting_most))]
 pub fn step_lowers_courting_potential()
     ensures lower { (c : Configuration) (chosen : ℕ → Option Rule) → IsLawful c → AllHold c chosen →
         courting_potential (step c chosen) + count_below c.size (moves chosen) ≤ courting_potential c }
@@ -89,6 +92,7 @@ pub fn rounds_are_reached()
 /// most 3n + 2k moves. For each even n from 4 to 256, some list applies as many. For each odd n from 5 to 255, some
 /// list applies one move less. Each of these is a legal list of grants and closes from the world `crowd_world n`, a
 /// dense network of which one student owns all nodes.
+#[tactic(auto, using(crate::proofs::MovesReachedLemmas::moves_reached_even, crate::proofs::MovesReachedLemmas::moves_reached_odd))]
 pub fn moves_are_reached()
     ensures world { (n : ℕ) → 4 ≤ n → n ≤ MAX_NODES →
         IsWorld (crowd_world n) × (size (crowd_world n) ≡ n) }
@@ -109,6 +113,7 @@ pub fn moves_are_reached()
 /// than 3 moves for each node and 2 for each link. If one student owns all nodes, some legal list of grants and closes
 /// applies one move less than that, or two less if the number of nodes is odd. The law doesn't say whether other trees
 /// allow more moves.
+#[tactic(auto, using(crate::proofs::CombLemmas::trees_reached_even, crate::proofs::CombLemmas::trees_reached_odd))]
 pub fn a_comb_takes_nearly_the_most_moves()
     ensures world { (n : ℕ) → 4 ≤ n → n ≤ MAX_NODES →
         IsWorld (comb_world n) × (size (comb_world n) ≡ n) }

@@ -37,12 +37,14 @@ ghost use Rattle.mml_convergence.specs.Rounds.{Rounds, rounds_for, ClosesFull};
 ghost use Rattle.mml_convergence.specs.Examples.{two_nodes, triangle_world, sole_owner, twenty_moves};
 
 /// Two nodes that point at each other also point at each other after any step of moves whose guards hold.
+#[tactic(auto, using(crate::proofs::StepLemmas::moved_keeps))]
 pub fn step_keeps_pairs()
     ensures { (c : Configuration) (chosen : ℕ → Option Rule) (i j : ℕ) → AllHold c chosen →
         IsPair c i j → IsPair (step c chosen) i j }
 {}
 
 /// In a legal list of grants, releases and closes, from any world, the register m of each node changes at most twice.
+#[tactic(auto, using(crate::proofs::RunsLemmas::twice_at_most))]
 pub fn m_changes_at_most_twice()
     ensures { (r : RosterValue) (w : World) (es : List Event) (i : ℕ) → IsWorld w →
         is_legal_list r w es ≡ true → list_all is_of_step es ≡ true → changes_of_m i w es ≤ 2 }
@@ -50,6 +52,7 @@ pub fn m_changes_at_most_twice()
 
 /// A step of moves whose guards hold lowers the sum of all nodes' potentials by at least the number of nodes that move.
 /// The sum is at most 2 for each link and 3 for each node.
+#[tactic(auto, using(crate::proofs::WholePotentialLemmas::whole_fell, crate::proofs::AppliedLemmas::network_most))]
 pub fn step_lowers_potential()
     ensures lower { (c : Configuration) (chosen : ℕ → Option Rule) → IsLawful c →
         AllHold c chosen →
@@ -61,6 +64,7 @@ pub fn step_lowers_potential()
 /// The closes of a legal list of grants, releases and closes, from any world, apply at most 2 moves for each link and 3
 /// for each node. A close applies the moves that were granted and not released since; the bound holds whichever moves
 /// were granted.
+#[tactic(auto, using(crate::proofs::AppliedLemmas::moves_bounded))]
 pub fn moves_are_bounded()
     ensures { (r : RosterValue) (w : World) (es : List Event) → IsWorld w →
         is_legal_list r w es ≡ true → list_all is_of_step es ≡ true →
@@ -69,6 +73,7 @@ pub fn moves_are_bounded()
 
 /// From any world, a legal list of grants, releases and closes has at most 2 closes for each link and 3 for each node.
 /// The reason is that each close applies a move.
+#[tactic(auto, using(crate::proofs::AppliedLemmas::closes_bounded))]
 pub fn closes_are_bounded()
     ensures { (r : RosterValue) (w : World) (es : List Event) → IsWorld w →
         is_legal_list r w es ≡ true → list_all is_of_step es ≡ true →
@@ -90,6 +95,7 @@ pub fn bound_is_reached()
 {}
 
 /// At a privileged node without a chosen move, the grant of some rule is legal for each owner of the node.
+#[tactic(auto, using(crate::proofs::RestLemmas::may_move))]
 pub fn privileged_nodes_may_move()
     ensures { (r : RosterValue) (w : World) (i : ℕ) → IsWorld w → i < size w →
         is_privileged (configuration w) i ≡ true → chosen_at w.chosen i ≡ None →
@@ -101,6 +107,7 @@ pub fn privileged_nodes_may_move()
 /// privileged after the list, and the pairs are a maximal matching, however the moves are chosen. A list that ends with
 /// a privileged node has fewer than `rounds_for n` rounds, which are four for each two nodes and one for a node left
 /// over.
+#[tactic(auto, using(crate::proofs::RoundsLemmas::rounds_bounded, crate::proofs::RoundsLemmas::rounds_fewer))]
 pub fn rounds_are_bounded()
     ensures stable { (r : RosterValue) (w : World) (es : List Event) → IsWorld w →
         is_legal_list r w es ≡ true → list_all is_of_step es ≡ true → Rounds (2 * size w) w es →
@@ -111,6 +118,7 @@ pub fn rounds_are_bounded()
 {}
 
 /// `rounds_for n`, four rounds for each two of n nodes and one for a node left over, is 2n, or 2n - 1 if n is odd.
+#[tactic(auto, using(crate::proofs::RoundsLemmas::most_rounds, crate::proofs::RoundsLemmas::for_even, crate::proofs::RoundsLemmas::for_odd))]
 pub fn rounds_in_numbers()
     ensures at_most { (n : ℕ) → rounds_for n ≤ 2 * n }
     ensures even { (k : ℕ) → rounds_for (2 * k) ≡ 4 * k }
@@ -119,6 +127,7 @@ pub fn rounds_in_numbers()
 
 /// If no node is privileged after a list of events, the list begins with k rounds for every k. The whole list is one
 /// round, and empty lists are the further rounds.
+#[tactic(auto, using(crate::proofs::RoundsLemmas::stable_rounds))]
 pub fn stable_lists_have_rounds()
     ensures { (w : World) (es : List Event) (k : ℕ) → IsStable (configuration (world_of w es)) →
         Rounds k w es }
@@ -126,6 +135,7 @@ pub fn stable_lists_have_rounds()
 
 /// Let every privileged node have a chosen move at each close of a legal list of grants, releases and closes. Then the
 /// list, from any world, has at most 2n closes for n nodes, and 2n - 1 if n is odd.
+#[tactic(auto, using(crate::proofs::ClosesFullLemmas::closes_few))]
 pub fn full_closes_are_few()
     ensures { (r : RosterValue) (w : World) (es : List Event) → IsWorld w →
         is_legal_list r w es ≡ true → list_all is_of_step es ≡ true → ClosesFull w es →
@@ -133,6 +143,7 @@ pub fn full_closes_are_few()
 {}
 
 /// If no node is privileged, no grant, no release and no close is legal. Only a fault, a link or a cut can be legal.
+#[tactic(auto, using(crate::proofs::RestLemmas::stable_final))]
 pub fn stable_is_final()
     ensures { (r : RosterValue) (w : World) (e : Event) → IsWorld w → IsStable (configuration w) →
         is_of_step e ≡ true → is_legal r w e ≡ false }
@@ -141,6 +152,7 @@ pub fn stable_is_final()
 /// Let each node have an owner. If no grant and no close is legal after a legal list, no node is privileged, and the
 /// pairs are a maximal matching. From every world, some legal list of grants and closes leads to a world in which no
 /// node is privileged. This list has at most 4 events for each link and 6 for each node.
+#[tactic(auto, using(crate::proofs::RestLemmas::ended, crate::proofs::LeadsToRestLemmas::reached))]
 pub fn runs_end_stable()
     ensures ended { (r : RosterValue) (w : World) (es : List Event) → IsWorld w →
         EachHasOwner r (size w) → is_legal_list r w es ≡ true → IsOver r (world_of w es) →
@@ -153,6 +165,7 @@ pub fn runs_end_stable()
 /// four states. In `apart` neither points at the other, and in `asked` the second points at the first. In `refused` the
 /// first points at the second, whose m is true. In `paired` they are a pair, with m true at both. For a triangle with a
 /// tail, the sum over all nodes is 20, the greatest sum for 4 links and 4 nodes.
+#[tactic(auto, using(crate::proofs::ExamplesLemmas::triangle_potential), unfolding(crate::specs::Potential::potential, mml_rules::specs::Rules::is_married))]
 pub fn potentials_by_hand()
     ensures apart { (potential (two_nodes None false None false) 0 ≡ 3) ×
         (potential (two_nodes None false None false) 1 ≡ 1) }
