@@ -1,6 +1,6 @@
 -- Searching a list, and searching the mapped list, which has f x for each element x of the list.
 use Rattle.std.proofs.Common.{◌≡◌, List, [], ◌∷◌, Bool, true, false, ◌||◌, length, map, Some, suc, refl, ap, arith}
-use Rattle.std.proofs.lemmas.Bool.{cases_lt, lt-ltb, le-ltb}
+use Rattle.std.proofs.lemmas.{Bool.cases_lt, Bool.lt-ltb, Bool.le-ltb, List.length-map}
 use Rattle.std.specs.{Prelude.option_map, List.list_any, List.find, List.position, List.position_or_len}
 
 -- f x passes the test for some element x exactly if some element of the mapped list passes the test
@@ -17,13 +17,9 @@ index-map : {X Y : Type 0} (p : Y → Bool) (f : X → Y) (xs : List X) → posi
 index-map p f [] = refl
 index-map p f (x ∷ xs) = rw (index-map p f xs) refl
 
-length-mapped : {X Y : Type 0} (f : X → Y) (xs : List X) → length xs ≡ length (map f xs)
-length-mapped f [] = refl
-length-mapped f (x ∷ xs) = rw (length-mapped f xs) refl
-
 -- the first element x for which f x passes the test has the same index as the first one of the mapped list that passes
 pub position-map : {X Y : Type 0} (p : Y → Bool) (f : X → Y) (xs : List X) → position (λ x. p (f x)) xs ≡ position p (map f xs)
-position-map p f xs = rw (index-map p f xs, length-mapped f xs) refl
+position-map p f xs = rw (index-map p f xs, ← length-map xs f) refl
 
 -- mapping by f and then by g is the same as mapping by the composition of both
 pub map-map : {X Y Z : Type 0} (g : Y → Z) (f : X → Y) (xs : List X) → map (λ x. g (f x)) xs ≡ map g (map f xs)

@@ -1,50 +1,39 @@
 -- Searching the numbers below a bound, and searching a list.
-use Rattle.std.proofs.Common.{◌≡◌, ℕ, zero, suc, ◌+◌, ◌-◌, ◌<◌, ◌≤◌, Option, Some, None, Bool, true, false, cond, List, length, get_or, nat_lt, refl, sym, ap, ◌∙◌, arith}
-use Rattle.std.{specs.List.position, specs.List.position_or_len, proofs.lemmas.List.Sums.position_or_len_is, proofs.lemmas.List.Sums.fails_before_first}
-use Rattle.std.proofs.lemmas.Bool.{or_cases, or_left, or_right, or_parts, false≢true, cases_order, cases_Bool, lt-ltb, le-ltb, ltb-false, both_ways, false_from_ne_true}
+use Rattle.std.proofs.Common.{◌≡◌, ℕ, zero, suc, ◌+◌, ◌-◌, ◌<◌, ◌≤◌, Option, Some, None, Bool, true, false, cond, List, length, get_or, nat_lt, refl, sym, ap, ◌∙◌, zero-add, suc-add, add_comm, arith}
+use Rattle.std.{specs.List.position, proofs.lemmas.List.Sums.position_or_len_is, proofs.lemmas.List.Sums.fails_before_first}
+use Rattle.std.proofs.lemmas.Bool.{or_cases, or_left, or_right, or_parts, false≢true, cases_order, cases_Bool, lt-ltb, le-ltb, ltb-false, false_from_ne_true, cond_both}
 use Rattle.mml_ids.specs.Search.{first_from, first_below, some_below, greatest_below}
 
-one_step : (test : ℕ → Bool) (s n : ℕ) (b : Bool) → test s ≡ b → first_from test s (suc n) ≡ cond b (Some s) (first_from test (s + 1) n)
-one_step test s n b e = ap (λ t. cond t (Some s) (first_from test (s + 1) n)) e
+-- what the result of a search of the n numbers from s on says of the test
+abbrev Answers : (ℕ → Bool) → ℕ → ℕ → Option ℕ → Type 0
+Answers test s n None = (i : ℕ) → s ≤ i → i < s + n → test i ≡ false
+Answers test s n (Some k) = (s ≤ k) × (k < s + n) × (test k ≡ true) × ((i : ℕ) → s ≤ i → i < k → test i ≡ false)
 
-none_from : (test : ℕ → Bool) (s n i : ℕ) → first_from test s n ≡ None → s ≤ i → i < s + n → test i ≡ false
-none_from test s zero i none le lt = absurd (omega arith)
-none_from test s (suc n) i none le lt = grind (arith, cases_order, one_step, none_from test (s + 1) n i)
+one_later : (test : ℕ → Bool) (s n : ℕ) (o : Option ℕ) → test s ≡ false → Answers test (s + 1) n o → Answers test s (suc n) o
+one_later test s n None e h = λ i le lt. grind (arith, cases_order i s)
+one_later test s n (Some k) e h = (omega arith, omega arith, h.2, λ i le lt. grind (arith, cases_order i s))
 
-from_none : (test : ℕ → Bool) (s n : ℕ) → ((i : ℕ) → s ≤ i → i < s + n → test i ≡ false) → first_from test s n ≡ None
-from_none test s zero nowhere = refl
-from_none test s (suc n) nowhere = grind (arith, one_step, from_none test (s + 1) n)
-
-from_first : (test : ℕ → Bool) (s n k : ℕ) → s ≤ k → k < s + n → test k ≡ true → ((i : ℕ) → s ≤ i → i < k → test i ≡ false) → first_from test s n ≡ Some k
-from_first test s zero k le lt here before = absurd (omega arith)
-from_first test s (suc n) k le lt here before = grind (arith, cases_order, one_step, from_first test (s + 1) n k)
-
--- k is the first of the n numbers from s on that passes the test
-pub record IsFirst (test : ℕ → Bool) (s n k : ℕ) : Type 0 where
-  pub from : s ≤ k
-  pub within : k < s + n
-  pub here : test k ≡ true
-  pub before : (i : ℕ) → s ≤ i → i < k → test i ≡ false
-
-first_of : (test : ℕ → Bool) (s n k : ℕ) → first_from test s n ≡ Some k → IsFirst test s n k
-first_of test s zero k found = absurd cc
-first_of test s (suc n) k found = grind (arith, one_step, cases_order, first_of test (s + 1) n k)
+answers : (test : ℕ → Bool) (s n : ℕ) → Answers test s n (first_from test s n)
+answers test s zero = λ i le lt. absurd (omega arith)
+answers test s (suc n) =
+    cond_both (test s) (Some s) (first_from test (s + 1) n) (Answers test s (suc n)) (λ e. (omega arith, omega arith, e, λ i le lt. absurd (omega arith)))
+    (λ e. one_later test s n (first_from test (s + 1) n) e (answers test (s + 1) n))
 
 -- if the search below n finds k, then k is below n and passes, and no number before k passes
 pub first-is : (test : ℕ → Bool) (n k : ℕ) → first_below test n ≡ Some k → (k < n) × (test k ≡ true) × ((i : ℕ) → i < k → test i ≡ false)
-first-is test n k found = let at = first_of test 0 n k found in let within = at.within in (omega arith, at.here, λ i lt. at.before i (omega arith) lt)
+first-is test n k found = grind (arith, answers test 0 n)
 
 -- if k is below n and passes, and no number before k passes, the search below n finds k
 pub first-at : (test : ℕ → Bool) (n k : ℕ) → k < n → test k ≡ true → ((i : ℕ) → i < k → test i ≡ false) → first_below test n ≡ Some k
-first-at test n k lt here before = from_first test 0 n k (omega arith) (omega arith) here (λ i le to. before i to)
+first-at test n k lt here before = grind (arith, answers test 0 n, cases_order)
 
 -- if the search below n finds none, no number below n passes
 pub none-is : (test : ℕ → Bool) (n : ℕ) → first_below test n ≡ None → (i : ℕ) → i < n → test i ≡ false
-none-is test n none i lt = none_from test 0 n i none (omega arith) (omega arith)
+none-is test n none i lt = grind (arith, answers test 0 n)
 
 -- if no number below n passes, the search finds none
 pub none-at : (test : ℕ → Bool) (n : ℕ) → ((i : ℕ) → i < n → test i ≡ false) → first_below test n ≡ None
-none-at test n nowhere = from_none test 0 n (λ i le lt. nowhere i (omega arith))
+none-at test n nowhere = grind (arith, answers test 0 n)
 
 -- if n isn't 0, a search of n numbers from k on finds k if k passes, and otherwise goes on from k + 1
 next_step : (bad : ℕ → Bool) (k n m : ℕ) → n ≡ suc m → first_from bad k n ≡ cond (bad k) (Some k) (first_from bad (k + 1) m)
@@ -65,8 +54,7 @@ first_end bad k n h = let e : n - k ≡ 0 = omega arith in rw e
 -- if no element passes, `position` returns no index
 pub position-none : {X : Type 0} (p : X → Bool) (xs : List X) (d : X) → ((k : ℕ) → k < length xs → p (get_or xs k d) ≡ false) → position p xs ≡ None
 position-none p xs d nowhere =
-    let e : position_or_len p xs ≡ length xs = position_or_len_is p xs (length xs) d (omega arith) nowhere (λ lt. absurd (omega arith)) in
-    rw (e, le-ltb (length xs) (length xs) (omega arith))
+    rw (position_or_len_is p xs (length xs) d (omega arith) nowhere (λ lt. absurd (omega arith)), le-ltb (length xs) (length xs) (omega arith)) refl
 
 -- if the element at index i passes, and none before it passes, `position` returns i
 pub position-at : {X : Type 0} (p : X → Bool) (xs : List X) (i : ℕ) (d : X) → i < length xs → p (get_or xs i d) ≡ true
@@ -130,24 +118,20 @@ greatest_above (suc n) j k t h l q = grind (arith, cases_order, greatest_above n
 -- bounds
 pub some_below_alike : (n m : ℕ) (t u : ℕ → Bool) → ((k : ℕ) → t k ≡ u k) → ((k : ℕ) → t k ≡ true → k < n) → ((k : ℕ) → u k ≡ true → k < m)
     → some_below n t ≡ some_below m u
-some_below_alike n m t u same under_n under_m = same_bool _ _
-    (λ h. let r = some_below-find n t h in let e = sym (same r.0) ∙ r.2 in some_below-at m r.0 u (under_m r.0 e) e)
-    (λ h. let r = some_below-find m u h in let e = same r.0 ∙ r.2 in some_below-at n r.0 t (under_n r.0 e) e)
+some_below_alike n m t u same under_n under_m =
+    same_bool _ _ (λ h. let r = some_below-find n t h in grind (arith, some_below-at m r.0 u))
+    (λ h. let r = some_below-find m u h in grind (arith, some_below-at n r.0 t))
+
+-- numbers from n on that don't pass don't change what `greatest_below` finds
+greatest_below_more : (d n : ℕ) (t : ℕ → Bool) → ((k : ℕ) → t k ≡ true → k < n) → greatest_below (d + n) t ≡ greatest_below n t
+greatest_below_more zero n t under = ap (λ m. greatest_below m t) (zero-add n)
+greatest_below_more (suc d) n t under =
+    let fails = false_from_ne_true (t (d + n)) (λ h. let lt = under (d + n) h in omega arith) in
+    ap (λ m. greatest_below m t) (suc-add d n) ∙ ap (λ b. cond b (Some (d + n)) (greatest_below (d + n) t)) fails ∙ greatest_below_more d n t under
 
 -- if two tests agree, and every number that passes is below both bounds, `greatest_below` finds the same for both
 -- bounds
 pub greatest_below_alike : (n m : ℕ) (t u : ℕ → Bool) → ((k : ℕ) → t k ≡ u k) → ((k : ℕ) → t k ≡ true → k < n) → ((k : ℕ) → u k ≡ true → k < m)
     → greatest_below n t ≡ greatest_below m u
-greatest_below_alike n m t u same under_n under_m = go (greatest_below n t) refl
-  where
-    none : (o : Option ℕ) → greatest_below n t ≡ None → greatest_below m u ≡ o → None ≡ o
-    none None e g = refl
-    none (Some j) e g = let h = same j ∙ (greatest_below-some m j u g).1 in absurd (both_ways (t j) (greatest_below-none n j t e (under_n j h)) h)
-
-    go : (o : Option ℕ) → greatest_below n t ≡ o → greatest_below n t ≡ greatest_below m u
-    go None e = e ∙ none (greatest_below m u) e refl
-    go (Some j) e =
-        let h = sym (same j) ∙ (greatest_below-some n j t e).1 in
-        e ∙ sym (greatest_is m j u (under_m j h) h (λ k above below. false_from_ne_true (u k) (λ a.
-        let b = same k ∙ a in
-        both_ways (t k) (greatest_above n j k t e above (under_n k b)) b)))
+greatest_below_alike n m t u same under_n under_m =
+    sym (greatest_below_more m n t under_n) ∙ (λ i. greatest_below (add_comm m n i) (λ k. same k i)) ∙ greatest_below_more n m u under_m

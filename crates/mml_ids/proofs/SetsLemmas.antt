@@ -1,9 +1,8 @@
 -- The ranks of a set in rising order, and a set without one of its ranks.
-use Rattle.std.proofs.Common.{◌≡◌, ◌≢◌, ℕ, zero, suc, ◌+◌, ◌<◌, ◌≤◌, Bool, true, false, cond, eqb, not, ◌&&◌, ◌||◌, List, [], ◌∷◌, ◌++◌, map, filter, sym, refl, ap, ◌∙◌, arith, append-nil}
-use Rattle.std.proofs.Common.{append_assoc, zero-add}
-use Rattle.std.proofs.lemmas.{Bool.cases_eq, Bool.eq-eqb, Bool.ne_eqb, Bool.false_from_ne_true, List.map-append, List.FromFn.map-range_with_len_more, List.Elements.filter-append}
+use Rattle.std.proofs.Common.{◌≡◌, ◌≢◌, ℕ, zero, suc, ◌+◌, ◌<◌, ◌≤◌, Bool, true, false, cond, List, [], ◌∷◌, ◌++◌, map, filter, sym, refl, ap, ◌∙◌, arith, append-nil, append_assoc}
+use Rattle.std.proofs.lemmas.{Bool.cases_Bool, List.map-id, List.FromFn.filter_of_map_range_with_len_more, Bool.cases_eq, Bool.eq-eqb, Bool.ne_eqb, List.map-append}
 use Rattle.std.specs.{List.range_with_len, Cmp.nat_cmp_total, Ordering.nat_cmp, FinSet.FinSet}
-use Rattle.mml_ids.specs.inside.WordsLemmas.{has_empty, has_insert, has_remove, same_ranks}
+use Rattle.mml_ids.specs.inside.WordsLemmas.{has_empty, has_remove}
 use Rattle.std.specs.FinSet as sets
 
 -- the ranks below n that are in the set
@@ -24,13 +23,9 @@ first_passes t u k (suc n) a from below here gone others before = grind (arith, 
 -- the ranks of a set in rising order are its least rank, followed by the ranks of the set without it
 pub least_first : (n : ℕ) (s rest : FinSet nat_cmp) (a : ℕ) → sets.contains s a ≡ true → ((q : ℕ) → sets.contains s q ≡ true → a ≤ q) → a < n
     → rest ≡ sets.remove s a → ranks_in n s ≡ a ∷ ranks_in n rest
-least_first n s rest a there least below removed = first_passes (sets.contains s) (sets.contains rest) 0 n a (omega arith) (omega arith) there
-    (has a ∙ ap (λ b. not b && sets.contains s a) (eq-eqb a a refl))
-    (λ q ne. sym (has q ∙ ap (λ b. not b && sets.contains s q) (ne_eqb q a ne)))
-    (λ q lt. false_from_ne_true (sets.contains s q) (λ h. let le = least q h in omega arith))
-  where
-    has : (q : ℕ) → sets.contains rest q ≡ (not (eqb q a) && sets.contains s q)
-    has q = ap (λ r. sets.contains r q) removed ∙ has_remove s a q
+least_first n s rest a there least below removed =
+    first_passes (sets.contains s) (sets.contains rest) 0 n a (omega arith) (omega arith) there (grind (arith, has_remove, eq-eqb a a))
+    (λ q ne. grind (arith, has_remove, ne_eqb q a)) (λ q lt. grind (arith, least q, cases_Bool))
 
 none_pass : (xs : List ℕ) → filter (λ q. false) xs ≡ []
 none_pass [] = refl
@@ -55,32 +50,17 @@ all_put f n left held whole none so_far = sym (append-nil held) ∙ sym (ap (λ 
 
 -- ---- from n to n + 1
 
-map-same : (xs : List ℕ) → map (λ x. x) xs ≡ xs
-map-same [] = refl
-map-same (x ∷ xs) = ap (λ ys. x ∷ ys) (map-same xs)
-
-range_more : (n : ℕ) → range_with_len 0 (n + 1) ≡ range_with_len 0 n ++ n ∷ []
-range_more n =
-    sym (map-same (range_with_len 0 (n + 1))) ∙ map-range_with_len_more (λ x. x) 0 n n (zero-add n)
-    ∙ ap (λ xs. xs ++ n ∷ []) (map-same (range_with_len 0 n))
-
 -- the values of f at the numbers below n that pass the test, in rising order
 abbrev pub passing : {X : Type 0} → (ℕ → Bool) → (ℕ → X) → ℕ → List X
 passing t f n = map f (filter t (range_with_len 0 n))
 
 -- for n + 1, `passing` is the list for n with the value of n appended if n passes
 pub passing_more : {X : Type 0} (t : ℕ → Bool) (f : ℕ → X) (n : ℕ) → passing t f (n + 1) ≡ passing t f n ++ map f (cond (t n) (n ∷ []) [])
-passing_more t f n = grind (arith, range_more, filter-append, map-append)
+passing_more t f n =
+    grind (arith, map-id (range_with_len 0 n), map-id (range_with_len 0 (n + 1)), filter_of_map_range_with_len_more t (λ k. k) 0 n n, map-append)
 
 -- ---- a set without one of its ranks
 
 -- a set has one rank more than the set without one of its ranks
-pub len-remove_one : (s : FinSet nat_cmp) (a : ℕ) → sets.contains s a ≡ true → sets.len s ≡ sets.len (sets.remove s a) + 1
-len-remove_one s a h =
-    ap sets.len
-    (same_ranks s (sets.insert (sets.remove s a) a) (λ q. sym (has_insert (sets.remove s a) a q ∙ ap (λ b. eqb q a || b) (has_remove s a q) ∙ back q)))
-    ∙ sets.len-insert nat_cmp_total (sets.remove s a) a
-    ∙ ap (λ b. cond b (sets.len (sets.remove s a)) (sets.len (sets.remove s a) + 1)) (has_remove s a a ∙ ap (λ b. not b && sets.contains s a) (eq-eqb a a refl))
-  where
-    back : (q : ℕ) → (eqb q a || (not (eqb q a) && sets.contains s q)) ≡ sets.contains s q
-    back q = grind (arith, cases_eq, eq-eqb, ne_eqb)
+pub len_remove_one : (s : FinSet nat_cmp) (a : ℕ) → sets.contains s a ≡ true → sets.len s ≡ sets.len (sets.remove s a) + 1
+len_remove_one s a h = grind (arith, sets.len-remove nat_cmp_total s a, sets.empty_of_len s, has_empty a, cases_eq (sets.len s) 0)
