@@ -21,22 +21,10 @@ kind-choose : (c : Configuration) (i : ℕ)
 unfolding enabled_kind
 kind-choose c i = refl
 
-chosen_update : (s p v u b : Bool) → s ≡ false → choose s p v u b ≡ Some Kind.Update
-chosen_update s p v u b h = rw h refl
-
-chosen_marriage : (s p v u b : Bool) → s ≡ true → p ≡ false → u ≡ true → choose s p v u b ≡ Some Kind.Marriage
-chosen_marriage s p v u b h k l = rw (h, k, l) refl
-
-chosen_seduction : (s p v u b : Bool) → s ≡ true → p ≡ false → u ≡ false → b ≡ true → choose s p v u b ≡ Some Kind.Seduction
-chosen_seduction s p v u b h k l m = rw (h, k, l, m) refl
-
-chosen_abandonment : (s p v u b : Bool) → s ≡ true → p ≡ true → v ≡ true → choose s p v u b ≡ Some Kind.Abandonment
-chosen_abandonment s p v u b h k l = rw (h, k, l) refl
-
 -- if the guard of a rule holds, `enabled_kind` names its kind, so at most one of the four kinds is enabled
 pub guard-kind : (c : Configuration) (i : ℕ) (r : Rule) → IsLawful c → guard c i r ≡ true → enabled_kind c i ≡ Some (kind_of r)
 guard-kind c i r l h =
-    grind (arith, nat_tests, kind-choose, chosen_update, not-true, and_parts, chosen_marriage, null-some, suitor-from, holds-true, chosen_seduction, chosen_abandonment, vain-some)
+    grind (arith, nat_tests, kind-choose, not-true, and_parts, null-some, suitor-from, holds-true, vain-some)
 
 -- at a node that isn't privileged, no rule's guard holds
 pub idle-guard : (c : Configuration) (i : ℕ) (r : Rule) → IsLawful c → is_privileged c i ≡ false → guard c i r ≡ false
@@ -65,3 +53,6 @@ kind-guard c i k h =
 -- two rules whose guards hold at one node are of the same kind
 pub one-kind : (c : Configuration) (i : ℕ) (r s : Rule) → IsLawful c → guard c i r ≡ true → guard c i s ≡ true → kind_of r ≡ kind_of s
 one-kind c i r s l g h = some-path (sym (guard-kind c i r l g) ∙ guard-kind c i s l h)
+
+-- which kind is enabled
+pub ruleset kinds = (guard-kind, kind-guard, one-kind)

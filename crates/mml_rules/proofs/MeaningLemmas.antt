@@ -1,6 +1,6 @@
 -- Each test of the rules is true exactly if the fact that it tests holds.
-use Rattle.std.proofs.lemmas.Bool.{Decides.nat_tests, and_parts, and_from, or_cases, or_left, or_right, not-true, false_from_ne_true, both_ways, false≢true, lt-ltb, ltb-true, cases_order}
-use Rattle.std.proofs.Common.{◌≡◌, ◌↔◌, ◌≢◌, ℕ, ◌<◌, Bool, true, not, ◌&&◌, inl, inr, nat_lt, Option, None, Some, is_some, is_none, refl, ap, arith}
+use Rattle.std.proofs.lemmas.Bool.{Decides.nat_tests, and_parts, and_from, or_cases, or_left, or_right, not-true, false_from_ne_true, both_ways, false≢true, lt-ltb, ltb-true}
+use Rattle.std.proofs.Common.{◌≡◌, ◌↔◌, ◌≢◌, ℕ, ◌<◌, Bool, true, not, ◌&&◌, nat_lt, Option, None, Some, is_some, is_none, refl, ap, arith}
 use Rattle.std.specs.Bool.{beq}
 use Rattle.mml_rules.specs.{declared.rule.Rule.Rule, Configuration.Configuration, Configuration.IsLawful, Configuration.holds}
 use Rattle.mml_rules.specs.Rules.{is_married, has_suitor, is_candidate, greatest_candidate, m_is_right, points_in_vain, guard, effect, is_privileged}
@@ -45,15 +45,9 @@ right-means c i l = (right-to c i l, right-back c i l)
 
 -- ---- suitors and candidates
 
-suitor-to : (c : Configuration) (i : ℕ) → has_suitor c i ≡ true → HasSuitor c i
-suitor-to c i h = suitor-find c i h
-
-suitor-back : (c : Configuration) (i : ℕ) → IsLawful c → HasSuitor c i → has_suitor c i ≡ true
-suitor-back c i l h = suitor-from c i h.0 l h.1 h.2
-
 -- `has_suitor` is true exactly if the node has a suitor
 pub suitor-means : (c : Configuration) (i : ℕ) → IsLawful c → (has_suitor c i ≡ true) ↔ HasSuitor c i
-suitor-means c i l = (suitor-to c i, suitor-back c i l)
+suitor-means c i l = (suitor-find c i, λ h. suitor-from c i h.0 l h.1 h.2)
 
 candidate-to : (c : Configuration) (i j : ℕ) → is_candidate c i j ≡ true → IsCandidate c i j
 candidate-to c i j h = grind (arith, and_parts, nat_lt, is_none, ltb-true, none-null, not-true)
@@ -72,13 +66,7 @@ greatest-to : (c : Configuration) (i j : ℕ) → IsLawful c → greatest_candid
 unfolding greatest_candidate
 greatest-to c i j l h = (
   candidate-to c i j (greatest_below-some c.size j (is_candidate c i) h).1,
-  λ k a. elim (cases_order j k) [
-    | inl same ↦ omega arith
-    | inr o ↦ elim o [
-      | inl lt ↦ absurd (both_ways (is_candidate c i k) (greatest_above c.size j k (is_candidate c i) h lt (candidate_in c i k l a)) (candidate-back c i k a))
-      | inr gt ↦ omega arith
-    ]
-  ],
+  λ k a. grind (arith, both_ways, greatest_above c.size j k (is_candidate c i) h, candidate_in c i k l a, candidate-back c i k a),
 )
 
 greatest-back : (c : Configuration) (i j : ℕ) → IsLawful c → IsGreatestCandidate c i j → greatest_candidate c i ≡ Some j
@@ -96,11 +84,7 @@ unfolding greatest_candidate
 none-to c i j l h a = both_ways (is_candidate c i j) (greatest_below-none c.size j (is_candidate c i) h (candidate_in c i j l a)) (candidate-back c i j a)
 
 none-back : (c : Configuration) (i : ℕ) → IsLawful c → ((j : ℕ) → ¬ IsCandidate c i j) → greatest_candidate c i ≡ None
-none-back c i l h = go (greatest_candidate c i) refl
-  where
-    go : (o : Option ℕ) → greatest_candidate c i ≡ o → greatest_candidate c i ≡ None
-    go None e = e
-    go (Some j) e = absurd (h j (greatest-to c i j l e).0)
+none-back c i l h = grind (arith, λ (j : ℕ) (e : greatest_candidate c i ≡ Some j). h j (greatest-to c i j l e).0)
 
 -- `greatest_candidate` returns none exactly if i has no candidate
 pub no_greatest-means : (c : Configuration) (i : ℕ) → IsLawful c → (greatest_candidate c i ≡ None) ↔ ((j : ℕ) → ¬ IsCandidate c i j)
@@ -120,7 +104,7 @@ pub vain-means : (c : Configuration) (i : ℕ) → (points_in_vain c i ≡ true)
 vain-means c i = (grind (arith, nat_lt, false≢true, and_parts, both_ways, not-true, holds-from, or_cases, ltb-true), grind (arith, nat_lt, and_from, false_from_ne_true, holds-true, or_left, or_right, lt-ltb))
 
 guard-back : (c : Configuration) (i : ℕ) (r : Rule) → IsLawful c → MayApply c i r → guard c i r ≡ true
-guard-back c i r l h = grind (arith, false_from_ne_true, right-to, and_from, right-back, null-none, holds-from, suitor-to, none-to, nat_lt, holds-true, or_left, or_right, lt-ltb)
+guard-back c i r l h = grind (arith, false_from_ne_true, right-to, and_from, right-back, null-none, holds-from, suitor-find, none-to, nat_lt, holds-true, or_left, or_right, lt-ltb)
 
 -- only an update writes m
 pub effect_keeps_m : (c : Configuration) (i : ℕ) (r : Rule) → r ≢ Rule.Update → (effect c i r).m ≡ c.m i
@@ -128,8 +112,11 @@ effect_keeps_m c i r other = grind (arith, nat_tests)
 
 -- the guard of a rule holds exactly if the rule may be applied
 pub guard-means : (c : Configuration) (i : ℕ) (r : Rule) → IsLawful c → (guard c i r ≡ true) ↔ MayApply c i r
-guard-means c i r l = (grind (arith, both_ways, not-true, right-back, and_parts, is_none, right-to, none-null, holds-true, suitor-back, some-to, nat_lt, false≢true, holds-from, or_cases, ltb-true), guard-back c i r l)
+guard-means c i r l = (grind (arith, both_ways, not-true, right-back, and_parts, is_none, right-to, none-null, holds-true, suitor-from, some-to, nat_lt, false≢true, holds-from, or_cases, ltb-true), guard-back c i r l)
 
 -- `is_privileged` is true exactly if the guard of some rule holds at the node
 pub privileged-means : (c : Configuration) (i : ℕ) → IsLawful c → (is_privileged c i ≡ true) ↔ ((r : Rule) × (guard c i r ≡ true))
 privileged-means c i l = (grind (arith, false≢true, kind-guard), λ g. ap is_some (guard-kind c i g.0 l g.1))
+
+-- what the tests and the guards mean
+pub ruleset meanings = (married-means, right-means, suitor-means, vain-means, candidate-means, no_greatest-means, guard-means, privileged-means, effect_keeps_m)

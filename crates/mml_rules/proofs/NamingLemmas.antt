@@ -1,5 +1,5 @@
 -- If nodes get other names in the same order, guards and effects stay the same.
-use Rattle.std.proofs.Common.{◌≡◌, ℕ, ◌<◌, Bool, true, false, not, ◌&&◌, ◌||◌, ltb, Option, None, Some, is_some, is_none, sym, refl, ap, ◌∙◌, arith, inl, inr}
+use Rattle.std.proofs.Common.{◌≡◌, ℕ, ◌<◌, Bool, true, false, not, ◌&&◌, ◌||◌, ltb, Option, None, Some, is_some, is_none, sym, refl, ap, ◌∙◌, arith}
 use Rattle.std.specs.{Bool.beq, Option.option_map_or}
 use Rattle.std.proofs.lemmas.Bool.{cases_order, cases_eq, eq-eqb, ne_eqb, lt-ltb, le-ltb, and_parts, both_ways, false_from_ne_true}
 use Rattle.mml_ids.specs.Search.{some_below, greatest_below}
@@ -57,10 +57,7 @@ module _ (f : ℕ → ℕ) (c d : Configuration) (l : IsLawful c) (r : IsRenamed
           let h = greatest_below-some c.size j t e in
           greatest_is d.size (f j) u (r.within j h.0) (same j h.0 ∙ h.1) (λ y p q. false_from_ne_true (u y) (λ w.
           let n = r.named x y (near y w) in
-          let up : j < n.0 = elim (cases_order j n.0) [
-            | inl s ↦ let z : f j ≡ f n.0 = ap f s in absurd (omega (arith, n.2))
-            | inr o ↦ elim o [ inl lt ↦ lt | inr gt ↦ let z = r.rising n.0 j gt h.0 in absurd (omega (arith, n.2)) ]
-          ] in
+          let up : j < n.0 = grind (arith, cases_order, r.rising n.0 j) in
           both_ways (t n.0) (greatest_above c.size j n.0 t e up n.1) (sym (same n.0 n.1) ∙ ap u n.2 ∙ w)))
 
   pub married_named : (i : ℕ) → i < c.size → is_married d (f i) ≡ is_married c i

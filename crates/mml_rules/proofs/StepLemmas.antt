@@ -32,3 +32,6 @@ moved-linked c i j (Some r) l h e = effect-linked c i j r l (h r refl) e
 -- if the guards of all chosen moves hold, the configuration is lawful after the step
 pub step-lawful : (c : Configuration) (chosen : ℕ → Option Rule) → IsLawful c → AllHold c chosen → IsLawful (step c chosen)
 step-lawful c chosen l h = grind (arith, moved-linked)
+
+-- what a step does
+pub ruleset of_steps = (step-chosen, step-other, step-lawful)

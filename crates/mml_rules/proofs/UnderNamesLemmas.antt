@@ -58,11 +58,10 @@ module _ (f : ℕ → ℕ) (c d : Configuration) (l : IsLawful c) (r : IsRenamed
     no_suitor_elsewhere x none = grind (arith, false_from_ne_true, some_below-find, both_ways, and_parts)
 
     no_candidate_elsewhere : (x : ℕ) → IsNoName f c.size x → is_some (greatest_candidate d x) ≡ false
-    no_candidate_elsewhere x none = go (greatest_candidate d x) refl
-      where
-        go : (o : Option ℕ) → greatest_candidate d x ≡ o → is_some o ≡ false
-        go None e = refl
-        go (Some j) e = absurd (both_ways (d.linked x j) (empty.links x j none) (and_parts (d.linked x j) _ (greatest-is d x j e)).0)
+    no_candidate_elsewhere x none = grind (
+      arith,
+      λ (j : ℕ) (e : greatest_candidate d x ≡ Some j). both_ways (d.linked x j) (empty.links x j none) (and_parts (d.linked x j) _ (greatest-is d x j e)).0,
+    )
 
     idle_elsewhere : (x : ℕ) → IsNoName f c.size x → is_privileged d x ≡ false
     unfolding enabled_kind
