@@ -1,7 +1,7 @@
 -- Which texts are well-formed names and keys.
-use Rattle.std.proofs.lemmas.Bool.{Decides.nat_tests, and_from, and_parts, or_cases, eqb-true, eq-eqb, leb-true, le-leb, ltb-true, lt-ltb}
+use Rattle.std.proofs.lemmas.Bool.{Decides.nat_tests, or_left, or_right, and_from, and_parts, or_cases, eqb-true, eq-eqb, leb-true, le-leb, ltb-true, lt-ltb}
 use Rattle.std.proofs.lemmas.{Grind.common_steps, List.Elements.All-weaker, List.Elements.All-tail, List.Elements.All-cons, List.Sums.AllPass-from_list_all, List.Sums.list_all-from_AllPass}
-use Rattle.std.proofs.Common.{◌≡◌, ◌↔◌, ℕ, List, [], ◌∷◌, length, Bool, true, ◌||◌, arith, All, nat_le, rules}
+use Rattle.std.proofs.Common.{◌≡◌, ◌↔◌, ℕ, List, [], ◌∷◌, length, Bool, true, arith, All, nat_le, rules}
 use Rattle.std.specs.{List.list_all, Int.is_in_range, Int.IsInRange}
 use Rattle.mml_lab.specs.{declared.TheConstants.MAX_NAME, Rosters.is_name, Rosters.is_key, Rosters.is_name_byte, RosterMeaning.IsName, RosterMeaning.IsKey, RosterMeaning.IsNameByte}
 
@@ -10,12 +10,6 @@ in_range low high b is = let parts = and_parts (nat_le low b) (nat_le b high) is
 
 from_range : (low high b : ℕ) → IsInRange low high b → is_in_range low high b ≡ true
 from_range low high b within = and_from _ _ (le-leb low b within.0) (le-leb b high within.1)
-
-or_left : (a b : Bool) → a ≡ true → (a || b) ≡ true
-or_left a b e = rw e
-
-or_right : (a b : Bool) → b ≡ true → (a || b) ≡ true
-or_right a b e = grind arith
 
 from_name_byte : (b : ℕ) → IsNameByte b → is_name_byte b ≡ true
 from_name_byte b y = grind (arith, or_left, from_range, or_right, eq-eqb)
@@ -46,3 +40,6 @@ from_key key form = search (rules, and_from, lt-ltb, le-leb, all_pass, from_rang
 -- `is_key` is true exactly for well-formed keys
 pub key-means : (key : List ℕ) → (is_key key ≡ true) ↔ IsKey key
 key-means key = (grind (arith, common_steps, nat_tests, and_parts, ltb-true, leb-true, each_passes, in_range), from_key key)
+
+-- what the forms of names and keys mean
+pub ruleset forms = (name-means, key-means)

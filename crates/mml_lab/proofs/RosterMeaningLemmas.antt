@@ -1,5 +1,5 @@
 -- The definitions of the roster agree with the logical statements.
-use Rattle.std.proofs.Common.{◌≡◌, ◌↔◌, ℕ, ◌<◌, List, length, get_or, Option, Some, None, true, false, ◌⊎◌, inl, inr, refl, sym, ◌∙◌, arith, Contains}
+use Rattle.std.proofs.Common.{◌≡◌, ◌↔◌, ℕ, ◌<◌, List, length, get_or, Some, None, true, false, ◌⊎◌, inl, inr, refl, sym, ◌∙◌, arith, Contains}
 use Rattle.std.{specs.List.position, proofs.lemmas.Slice.Eq.bytes_eq-Decides}
 use Rattle.std.proofs.lemmas.Bool.{Decides.nat_tests, cases_Bool, cases_lt, and_from, and_parts, eqb-true, eq-eqb}
 use Rattle.std.proofs.lemmas.List.{get_or_past, Elements.All-get_or, Folds.list_any_at, Folds.Any-from_list_any, Quantifiers.position-Some}
@@ -44,15 +44,10 @@ principal-one r name key w roster = (grind (arith, position-Some, has_both), kno
 
 -- `principal` returns none exactly if no participant has this name and key
 pub principal-nobody : (r : RosterValue) (name key : List ℕ) → IsRoster r → (principal r name key ≡ None) ↔ ((w : Who) → ¬ IsKnownAs r w name key)
-principal-nobody r name key roster =
-    ((λ none w known. absurd (apart w (sym none ∙ known_is_found r name key w roster known))), λ nobody. by (principal r name key) refl nobody)
-  where
-    apart : (w : Who) → ◌≡◌ {A = Option Who} None (Some w) → ⊥
-    apart w e = cc
-
-    by : (o : Option Who) → principal r name key ≡ o → ((w : Who) → ¬ IsKnownAs r w name key) → principal r name key ≡ None
-    by None is nobody = is
-    by (Some w) is nobody = absurd (nobody w (grind (arith, position-Some, has_both)))
+principal-nobody r name key roster = (
+  λ none w known. let found = known_is_found r name key w roster known in absurd cc,
+  λ nobody. grind (arith, λ (w : Who) (e : principal r name key ≡ Some w). nobody w ((principal-one r name key w roster).0 e)),
+)
 
 -- ---- owners
 
@@ -82,3 +77,6 @@ student_of_name r s roster lt =
 -- a student whom `student_named` finds has that name
 pub name_of_student : (r : RosterValue) (name : List ℕ) (s : ℕ) → student_named r name ≡ Some s → name_of r (who.Student s) ≡ name
 name_of_student r name s found = (student_is r name s found).1
+
+-- what a roster says of students, names and owners
+pub ruleset of_rosters = (owns-student, principal-one, principal-nobody)

@@ -11,6 +11,7 @@ ghost use Rattle.mml_lab.specs.RosterMeaning.{IsKnownAs, IsName, IsKey};
 
 /// In a valid roster, `principal` returns a participant exactly if this participant has the given name and key. It
 /// returns `None` exactly if nobody has both.
+#[tactic(auto, using(crate::proofs::RosterMeaningLemmas::of_rosters))]
 pub fn principal_is_the_one_known()
     ensures one { (r : RosterValue) (name key : List ℕ) (w : Who) → IsRoster r →
         (principal r name key ≡ Some w) ↔ IsKnownAs r w name key }
@@ -19,6 +20,7 @@ pub fn principal_is_the_one_known()
 {}
 
 /// A student owns a node exactly if the student is among its owners, and the teacher owns none.
+#[tactic(auto, using(crate::proofs::RosterMeaningLemmas::of_rosters))]
 pub fn owns_means_owner()
     ensures student { (r : RosterValue) (s i : ℕ) →
         (owns r (Who.Student s) i ≡ true) ↔ Contains (owners_of r i) s }
@@ -27,6 +29,7 @@ pub fn owns_means_owner()
 
 /// In a valid roster, looking up a student's name finds that student. In any roster, a student who is found by a name
 /// has that name.
+#[tactic(auto, using(crate::proofs::RosterMeaningLemmas::student_of_name, crate::proofs::RosterMeaningLemmas::name_of_student))]
 pub fn names_and_students_are_inverse()
     ensures student_of_name { (r : RosterValue) (s : ℕ) → IsRoster r → s < length r.students →
         student_named r (name_of r (Who.Student s)) ≡ Some s }
@@ -35,6 +38,7 @@ pub fn names_and_students_are_inverse()
 {}
 
 /// The tests `is_name` and `is_key` are true exactly for well-formed names and keys.
+#[tactic(auto, using(crate::proofs::FormLemmas::forms))]
 pub fn forms_mean_facts()
     ensures name { (name : List ℕ) → (is_name name ≡ true) ↔ IsName name }
     ensures key { (key : List ℕ) → (is_key key ≡ true) ↔ IsKey key }
