@@ -1,15 +1,14 @@
 -- Checking each link before it is added to the rows. The rows are a list with the set of each node's neighbours.
-use Rattle.std.proofs.lemmas.Bool.{Decides.nat_tests, Decides.Decides-int_eq, and_parts, and_from, not-false, false≢true, lt-ltb}
-use Rattle.std.proofs.Common.{◌≡◌, ℕ, ℤ, pos, ◌-◌, ◌<◌, ◌≤◌, true, not, ◌&&◌, List, length, get_or, take, map, Option, Some, None, Ok, Err, ap, subst, arith}
-use Rattle.std.specs.{Prelude.is_some, Prelude.slice_index, Prelude.position, FinSet.FinSet, Ordering.nat_cmp, Ordering.int_eq}
+use Rattle.std.proofs.lemmas.Bool.{Decides.nat_tests, and_parts, and_from, not-false, false≢true, lt-ltb}
+use Rattle.std.proofs.Common.{◌≡◌, ℕ, ℤ, pos, ◌-◌, ◌<◌, ◌≤◌, true, not, List, length, get_or, take, map, Option, Some, None, Ok, Err, ap, subst, arith}
+use Rattle.std.specs.{Prelude.is_some, Prelude.slice_index, Prelude.position, FinSet.FinSet, Ordering.nat_cmp}
 use Rattle.std.proofs.lemmas.{List.take_all, List.Quantifiers.position-Some, Option.slice_get-get_or}
-use Rattle.mml_ids.specs.{Search.first_from, Search.first_below, Ids.in_order, Ids.rank_in, Ids.IsTable}
+use Rattle.mml_ids.specs.{Search.first_from, Search.first_below, Ids.in_order, Ids.IsTable}
 use Rattle.mml_ids.proofs.{GivesLemmas.map_none, IdsLemmas.id_of_rank, SearchLemmas.position-none, SearchLemmas.position-None, SearchLemmas.first_here, SearchLemmas.first_end}
-use Rattle.mml_lab.specs.{declared.lab_fault.LabFault.LabFault, Rosters.Account}
-use Rattle.mml_lab_file.specs.{Shape.NodeSpec, Shape.RawSpec, inside.Checks.rank_at, inside.Checks.lacks_rank, inside.Checks.are_near, inside.Checks.lab_with}
-use Rattle.mml_lab_file.specs.Reading.{number_of, file_ids, is_node, is_linked, lacks_end, is_link_again, neighbours_of, ends_fault, again_fault, pass_unless, pointers_fault, identified, enrolled}
-use Rattle.mml_lab_file.specs.Reading.{owned, linked, limited, checked, lab_from, lab_in, network_in}
-use Rattle.mml_lab_file.proofs.{LabInLemmas.positive, LabMeaningLemmas.any_means, LabMeaningLemmas.ranked, NeighboursLemmas.AreRows, NeighboursLemmas.has-neighbours_of, NeighboursLemmas.all_rows}
+use Rattle.mml_lab.specs.{declared.lab_fault.LabFault.LabFault}
+use Rattle.mml_lab_file.specs.{Shape.NodeSpec, inside.Checks.rank_at, inside.Checks.lacks_rank, inside.Checks.are_near}
+use Rattle.mml_lab_file.specs.Reading.{file_ids, is_linked, is_link_again, neighbours_of, ends_fault, again_fault, pass_unless}
+use Rattle.mml_lab_file.proofs.{LabInLemmas.positive, LabMeaningLemmas.ranked, NeighboursLemmas.AreRows, NeighboursLemmas.has-neighbours_of, NeighboursLemmas.all_rows, LabMeaningLemmas.ends-means}
 use Rattle.mml_lab.specs.declared.lab_fault.LabFault.TheVariants as fault
 
 some_rank : (o : Option ℕ) → is_some o ≡ true → (j : ℕ) × (o ≡ Some j)
@@ -32,21 +31,15 @@ near-linked ids table links rows are z w some_z some_w =
     grind (arith, nat_tests, rank-names, has-neighbours_of, lt-ltb)
 
 -- if all ends of links are nodes of the file, each of them has a rank
-pub all-ranked : (nodes : List NodeSpec) → IsTable (in_order (file_ids nodes)) → (links : List (ℤ × ℤ)) → pass_unless (ends_fault nodes links) ≡ Ok tt
+pub all_ranked : (nodes : List NodeSpec) → IsTable (in_order (file_ids nodes)) → (links : List (ℤ × ℤ)) → pass_unless (ends_fault nodes links) ≡ Ok tt
     → position (lacks_rank (in_order (file_ids nodes))) links ≡ None
 unfolding ends_fault rank_at
-all-ranked nodes table links right = position-none (lacks_rank (in_order (file_ids nodes))) links (pos 0, pos 0) (λ k lt.
-    let link : ℤ × ℤ = get_or links k (pos 0, pos 0) in
-    let both = not-false (is_node nodes link.0 && is_node nodes link.1)
-    (position-None (lacks_end nodes) links (pos 0, pos 0) (map_none fault.LinkEnd _ (none_in _ right)) k lt) in
-    let parts = and_parts (is_node nodes link.0) (is_node nodes link.1) both in
-    ap not (and_from _ _ (has link.0 parts.0) (has link.1 parts.1)))
+all_ranked nodes table links right = position-none (lacks_rank (in_order (file_ids nodes))) links (pos 0, pos 0) (λ k lt.
+    let ends = (ends-means nodes links).0 (map_none fault.LinkEnd _ (none_in _ right)) k (pos 0, pos 0) lt in
+    ap not (and_from _ _ (ap is_some (ranked nodes table _ ends.0).2) (ap is_some (ranked nodes table _ ends.1).2)))
   where
     none_in : (o : Option LabFault) → pass_unless o ≡ Ok tt → o ≡ None
     none_in o h = grind arith
-
-    has : (z : ℤ) → is_node nodes z ≡ true → is_some (rank_in (in_order (file_ids nodes)) (number_of z)) ≡ true
-    has z holds = ap is_some (ranked nodes table z ((any_means (λ node. int_eq node.id z) (λ node. node.id ≡ z) (λ node. Decides-int_eq node.id z) nodes).0 holds)).2
 
 -- ---- the rows after each link
 
@@ -69,20 +62,10 @@ again-found ids links k rows lt so_far again = grind (arith, first_here)
 
 module _ (ids : List ℕ) (links : List (ℤ × ℤ)) (k : ℕ) (rows : List (FinSet nat_cmp)) where
   -- if all links were added, none of them repeats an earlier one
-  pub again-none : length links ≤ k → AreFresh ids links k rows → pass_unless (again_fault links) ≡ Ok tt
+  pub again_none : length links ≤ k → AreFresh ids links k rows → pass_unless (again_fault links) ≡ Ok tt
   unfolding again_fault
-  again-none le so_far = grind (arith, first_end)
+  again_none le so_far = grind (arith, first_end)
 
   -- if all links were added, the rows have the neighbours of each node
-  pub all-rows : length links ≤ k → AreFresh ids links k rows → rows ≡ map (neighbours_of ids links) ids
-  all-rows le so_far = all_rows ids links rows (subst (λ l. AreRows ids l rows) (take_all k links le) so_far.are)
-
--- if a file passes all tests, its lab is the one made from their results
-pub gathered : (raw : RawSpec) (ids : List ℕ) (students : List Account) (rows : List (FinSet nat_cmp)) (events sessions : ℕ)
-    → identified raw.nodes ≡ Ok tt → enrolled raw.teacher raw.students ≡ Ok tt → owned students raw.nodes ≡ Ok tt → linked raw.nodes raw.links ≡ Ok tt
-    → pass_unless (pointers_fault raw.links raw.nodes) ≡ Ok tt → limited raw.events raw.sessions (length students) ≡ Ok tt
-    → ids ≡ in_order (file_ids raw.nodes) → students ≡ raw.students → rows ≡ map (neighbours_of ids raw.links) ids
-    → events ≡ number_of raw.events → sessions ≡ number_of raw.sessions
-    → lab_from raw ≡ Ok (lab_with ids raw.teacher students raw.nodes rows events sessions)
-unfolding lab_from checked lab_in network_in lab_with
-gathered raw ids students rows events sessions a b c d e f table same neighbours some_events some_sessions = grind arith
+  pub all_rows_are : length links ≤ k → AreFresh ids links k rows → rows ≡ map (neighbours_of ids links) ids
+  all_rows_are le so_far = all_rows ids links rows (subst (λ l. AreRows ids l rows) (take_all k links le) so_far.are)

@@ -7,7 +7,7 @@ use Rattle.mml_ids.specs.Search.{first_below}
 use Rattle.mml_lab.specs.declared.{TheConstants.MAX_STUDENTS, who.Who.Who}
 use Rattle.mml_lab.specs.Rosters.{Account, IsRoster, IsPrincipal, name_of, account_of, with_owners, is_account, no_account}
 use Rattle.mml_lab_file.specs.{Reading.is_name_again, Reading.name_twice, LabMeaning.IsFirstAgain, LabMeaning.AreDistinctBelow, LabMeaning.name_at}
-use Rattle.mml_ids.proofs.SearchLemmas.{position-None, first-is, first-at, none-is, none-at}
+use Rattle.mml_ids.proofs.{SearchLemmas.position-None, SearchLemmas.first-is, SearchLemmas.first-at, SearchLemmas.none-is, SearchLemmas.none-at, GivesLemmas.map_none}
 use Rattle.mml_lab.specs.declared.who.Who.TheVariants as who
 use Rattle.mml_lab.specs.declared.lab_fault.LabFault.TheVariants as fault
 
@@ -19,31 +19,25 @@ fresh-differ : (accounts : List Account) (n : ℕ) → n ≤ length accounts →
 fresh-differ accounts n le fresh j k lt within same = true≢false (sym (grind (arith, get_or-take, bytes_eq-Decides, list_any_at, length-take-le)) ∙ fresh k within)
 
 -- the error is `NameTwice k` exactly if k is the first index whose name occurs earlier
-pub name_twice-fault : (accounts : List Account) (k : ℕ) → (name_twice accounts ≡ Some (fault.NameTwice k)) ↔ IsFirstAgain accounts k
-name_twice-fault accounts k = (
+pub name_twice_fault : (accounts : List Account) (k : ℕ) → (name_twice accounts ≡ Some (fault.NameTwice k)) ↔ IsFirstAgain accounts k
+name_twice_fault accounts k = (
   λ found.
       let at = first-is (is_name_again accounts) (length accounts) k (below (first_below (is_name_again accounts) (length accounts)) found) in
       record { within = at.0; again = again_means accounts k at.0 at.1; first = fresh-differ accounts k (omega arith) at.2 },
   λ first.
-      let here : first_below (is_name_again accounts) (length accounts) ≡ Some k =
-      first-at (is_name_again accounts) (length accounts) k first.within (grind (arith, get_or-take, bytes_eq-Decides, list_any_at, length-take-le))
-      (grind (arith, cases_Bool, again_means)) in
-      ap (option_map fault.NameTwice) here,
+      ap (option_map fault.NameTwice) (first-at (is_name_again accounts) (length accounts) k first.within
+      (grind (arith, get_or-take, bytes_eq-Decides, list_any_at, length-take-le)) (grind (arith, cases_Bool, again_means))),
 )
   where
     below : (o : Option ℕ) → option_map fault.NameTwice o ≡ Some (fault.NameTwice k) → o ≡ Some k
     below o e = grind arith
 
 -- there is no such error exactly if all names are different
-pub name_twice-none : (accounts : List Account) → (name_twice accounts ≡ None) ↔ AreDistinctBelow accounts (length accounts)
-name_twice-none accounts = (
-  λ none. fresh-differ accounts (length accounts) (omega arith)
-      (none-is (is_name_again accounts) (length accounts) (below (first_below (is_name_again accounts) (length accounts)) none)),
+pub name_twice_none : (accounts : List Account) → (name_twice accounts ≡ None) ↔ AreDistinctBelow accounts (length accounts)
+name_twice_none accounts = (
+  λ none. fresh-differ accounts (length accounts) (omega arith) (none-is (is_name_again accounts) (length accounts) (map_none fault.NameTwice _ none)),
   λ differ. ap (option_map fault.NameTwice) (none-at (is_name_again accounts) (length accounts) (grind (arith, cases_Bool, again_means, length accounts))),
 )
-  where
-    below : (o : Option ℕ) → option_map fault.NameTwice o ≡ None → o ≡ None
-    below o e = grind arith
 
 -- ---- a roster of well-formed accounts with different names
 
@@ -58,7 +52,7 @@ is_roster teacher students owners few formed twice owned = record { few = few; f
     form (who.Student s) member = not-false _ (position-None (λ a. not (is_account a)) (teacher ∷ students) no_account formed (suc s) (omega arith))
 
     one_index : (j k : ℕ) → j < length (teacher ∷ students) → k < length (teacher ∷ students) → name_at (teacher ∷ students) j ≡ name_at (teacher ∷ students) k → j ≡ k
-    one_index = grind (arith, cases_order, teacher ∷ students, (name_twice-none (teacher ∷ students)).0 twice)
+    one_index = grind (arith, cases_order, teacher ∷ students, (name_twice_none (teacher ∷ students)).0 twice)
 
     differ : (a b : Who) → IsPrincipal (with_owners teacher students owners) a → IsPrincipal (with_owners teacher students owners) b
         → name_of (with_owners teacher students owners) a ≡ name_of (with_owners teacher students owners) b → a ≡ b

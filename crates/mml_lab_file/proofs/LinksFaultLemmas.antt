@@ -1,10 +1,9 @@
 -- The error of a link that repeats an earlier one.
 use Rattle.std.proofs.lemmas.{Bool.Decides.nat_tests, Bool.cases_Bool, Bool.both_ways, Option.slice_get_within, Option.get_or_from_slice_get, Option.slice_get_read}
-use Rattle.std.proofs.Common.{◌≡◌, ◌↔◌, ℕ, ℤ, ◌<◌, true, false, List, length, get_or, take, Option, Some, None, Result, Ok, Err, refl, ◌∙◌, arith}
+use Rattle.std.proofs.Common.{◌≡◌, ◌↔◌, ℕ, ℤ, ◌<◌, true, false, List, length, get_or, take, Option, Some, None, Ok, Err, refl, ◌∙◌, arith}
 use Rattle.std.specs.{Prelude.option_map, Prelude.slice_get, Option.option_map_or}
 use Rattle.std.proofs.lemmas.List.{get_or-take, length-take, length-take-le, Folds.list_any_at}
 use Rattle.mml_ids.specs.{Gives.◌>>◌, Search.first_below}
-use Rattle.mml_lab.specs.declared.lab_fault.LabFault.{LabFault}
 use Rattle.mml_lab_file.specs.{Shape.RawSpec, LabMeaning.JoinNodes, LabMeaning.IsLinkAgain, LabMeaning.IsFirstLinkAgain}
 use Rattle.mml_lab_file.specs.Reading.{is_linked, is_link_again, ends_fault, loops_fault, again_fault, pass_unless, linked}
 use Rattle.mml_ids.proofs.{SearchLemmas.first-is, SearchLemmas.first-at, SearchLemmas.none-is, SearchLemmas.none-at, FindLemmas.list_any-found}
@@ -41,38 +40,33 @@ first-means links k = (
       (λ j less. (not_again links j).1 (is.first j less)),
 )
 
-pub none-means : (links : List Link) → (first_below (is_link_again links) (length links) ≡ None) ↔ ((k : ℕ) → ¬ IsLinkAgain links k)
-none-means links = (
+pub none_means : (links : List Link) → (first_below (is_link_again links) (length links) ≡ None) ↔ ((k : ℕ) → ¬ IsLinkAgain links k)
+none_means links = (
   λ none k twice. both_ways (is_link_again links k) (none-is (is_link_again links) (length links) none k (slice_get_within links k twice.again twice.second))
       ((again-means links k).1 twice),
   λ never. none-at (is_link_again links) (length links) (λ k lt. (not_again links k).1 (never k)),
 )
 
-abbrev three : Option ℕ → Option ℕ → Option ℕ → Result (Unit {0}) LabFault
-three a b c = pass_unless (option_map fault.LinkEnd a) >> (pass_unless (option_map fault.Loop b) >> pass_unless (option_map fault.LinkTwice c))
+-- the tests of links end with the third error d exactly if the first two find none, and the third finds d
+three_are : (a b c d : Option ℕ)
+    → ((pass_unless (option_map fault.LinkEnd a) >> (pass_unless (option_map fault.Loop b) >> pass_unless (option_map fault.LinkTwice c)))
+    ≡ pass_unless (option_map fault.LinkTwice d)) ↔ ((a ≡ None) × (b ≡ None) × (c ≡ d))
+three_are a b c d = grind arith
 
-third_is : (a b c : Option ℕ) (k : ℕ) → three a b c ≡ Err (fault.LinkTwice k) → (a ≡ None) × (b ≡ None) × (c ≡ Some k)
-third_is a b c k e = grind arith
-
-all_none : (a b c : Option ℕ) → three a b c ≡ Ok tt → (a ≡ None) × (b ≡ None) × (c ≡ None)
-all_none a b c e = grind arith
-
-third : (a b c d : Option ℕ) → a ≡ None → b ≡ None → c ≡ d → three a b c ≡ pass_unless (option_map fault.LinkTwice d)
-third a b c d no_a no_b is = rw (no_a, no_b, is) refl
+tests-mean : (raw : RawSpec) (d : Option ℕ) {P : Type 0} → (first_below (is_link_again raw.links) (length raw.links) ≡ d) ↔ P
+    → (linked raw.nodes raw.links ≡ pass_unless (option_map fault.LinkTwice d)) ↔ (JoinNodes raw × P)
+unfolding linked ends_fault loops_fault again_fault
+tests-mean raw d means =
+    let three = three_are _ _ (first_below (is_link_again raw.links) (length raw.links)) d in (
+      λ e. let none = three.0 e in ((join-means raw).0 (none.0, none.1), means.0 none.2),
+      λ is. let none = (join-means raw).1 is.0 in three.1 (none.0, none.1, means.1 is.1),
+    )
 
 -- the error is `LinkTwice k` exactly if all links join different nodes, and link k is the first that repeats an earlier
 -- one
-pub twice-fault : (raw : RawSpec) (k : ℕ) → (linked raw.nodes raw.links ≡ Err (fault.LinkTwice k)) ↔ (JoinNodes raw × IsFirstLinkAgain raw.links k)
-unfolding linked ends_fault loops_fault again_fault
-twice-fault raw k = (
-  λ found. let parts = third_is _ _ _ k found in ((join-means raw).0 (parts.0, parts.1), (first-means raw.links k).0 parts.2),
-  λ is. let none = (join-means raw).1 is.0 in third _ _ _ (Some k) none.0 none.1 ((first-means raw.links k).1 is.1),
-)
+pub twice_fault : (raw : RawSpec) (k : ℕ) → (linked raw.nodes raw.links ≡ Err (fault.LinkTwice k)) ↔ (JoinNodes raw × IsFirstLinkAgain raw.links k)
+twice_fault raw k = tests-mean raw (Some k) (first-means raw.links k)
 
 -- the links have no error exactly if they all join different nodes, and none of them repeats an earlier one
-pub twice-none : (raw : RawSpec) → (linked raw.nodes raw.links ≡ Ok tt) ↔ (JoinNodes raw × ((k : ℕ) → ¬ IsLinkAgain raw.links k))
-unfolding linked ends_fault loops_fault again_fault
-twice-none raw = (
-  λ none. let parts = all_none _ _ _ none in ((join-means raw).0 (parts.0, parts.1), (none-means raw.links).0 parts.2),
-  λ is. let none = (join-means raw).1 is.0 in third _ _ _ None none.0 none.1 ((none-means raw.links).1 is.1),
-)
+pub twice_none : (raw : RawSpec) → (linked raw.nodes raw.links ≡ Ok tt) ↔ (JoinNodes raw × ((k : ℕ) → ¬ IsLinkAgain raw.links k))
+twice_none raw = tests-mean raw None (none_means raw.links)

@@ -43,20 +43,8 @@ pub one_more : (ids : List ℕ) → IsTable ids → (links : List (ℤ × ℤ)) 
     || ((holds (rank_in ids (number_of link.0)) i && holds (rank_in ids (number_of link.1)) q)
     || (holds (rank_in ids (number_of link.1)) i && holds (rank_in ids (number_of link.0)) q))))
     → AreRows ids (take k links) rows → AreRows ids (take (k + 1) links) new
-one_more ids table links k link rows new lt is long step so_far = grind (
-  arith,
-  common_steps,
-  nat_tests,
-  has-neighbours_of,
-  cases_lt,
-  position-Some,
-  ne_eqb,
-  and_right,
-  lt-ltb,
-  list_any_more,
-  joins_at,
-  le-ltb,
-)
+one_more ids table links k link rows new lt is long step so_far =
+    grind (arith, common_steps, nat_tests, has-neighbours_of, cases_lt, position-Some, ne_eqb, and_right, lt-ltb, list_any_more, joins_at, le-ltb)
 
 -- rows that have the neighbours of each node are the list of `neighbours_of` for all identifiers
 pub all_rows : (ids : List ℕ) (links : List (ℤ × ℤ)) (rows : Rows) → AreRows ids links rows → rows ≡ map (neighbours_of ids links) ids

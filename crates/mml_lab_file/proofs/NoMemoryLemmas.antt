@@ -1,7 +1,7 @@
 -- By the definitions, no bytes are refused because memory ran out.
 use Rattle.std.proofs.Common.{◌≡◌, ◌≢◌, ◌⊎◌, inl, inr, ℕ, List, Option, Some, Result, Err, subst, arith}
 use Rattle.std.specs.Prelude.{codes, ok_or, IfErr}
-use Rattle.toml.specs.Data.{Data, Items, no_items, item, Members, as_table, as_array}
+use Rattle.toml.specs.Data.{Data, Items, no_items, item, Members, as_array}
 use Rattle.mml_ids.specs.Gives.{◌>>=◌}
 use Rattle.mml_lab.specs.declared.lab_fault.{LabFault.LabFault, Key.Key}
 use Rattle.mml_lab_file.specs.{Reading.lab_fault, Reading.lab_of, Shape.of_kind, Shape.needed, Shape.each, Shape.account_in, Shape.student_of, Shape.names_of, Shape.node_of}
@@ -37,13 +37,9 @@ in_turn : {A : Type 0} (f : Data → Result A LabFault) (items : Items) → ((va
 in_turn f no_items h = tt
 in_turn f (item first rest) h = grind (arith, then, in_turn f rest h)
 
-account : (of_name of_key : Key) (members : Members) → OfResult (account_in of_name of_key members)
-unfolding account_in
-account of_name of_key members = grind (arith, then, there)
-
 student : (value : Data) → OfResult (student_of value)
-unfolding student_of
-student value = then (of_kind key.Student as_table value) _ (kind key.Student as_table value) (λ table. account key.StudentName key.StudentKey table)
+unfolding student_of account_in
+student value = grind (arith, then, kind, there)
 
 names : (value : Data) → OfResult (names_of value)
 unfolding names_of
@@ -61,8 +57,8 @@ links : (o : Option Data) → OfResult (links_of o)
 links o = grind (arith, then, kind, in_turn, link)
 
 teacher : (members : Members) → OfResult (teacher_of members)
-unfolding teacher_of
-teacher members = grind (arith, then, there, account)
+unfolding teacher_of account_in
+teacher members = grind (arith, then, there)
 
 students : (members : Members) → OfResult (students_of members)
 unfolding students_of

@@ -1,34 +1,42 @@
 -- The tests of a lab file have the same results on the program's values as on their descriptions in contracts. In these
 -- descriptions, a text is the list of its bytes.
-use Rattle.std.proofs.Common.{◌≡◌, ℕ, List, [], ◌∷◌, map, None, Ok, Err, MatchBool, refl, String, Global, string_bytes, arith}
-use Rattle.std.specs.{Prelude.option_map, Prelude.is_some, Prelude.bytes_eq, Prelude.◌==◌, List.list_any, List.find, Map.lookup}
-use Rattle.mml_ids.specs.{Gives.Faults, Ids.id_fault, Ids.is_id_memory, declared.id_table.IdFault.IdFault}
-use Rattle.mml_lab_file.specs.{declared.raw_lab.RawNode.RawNode, Shape.NodeSpec, Shape.is_lab_memory, inside.Raw.node_view, Faults.id_fault_as}
+use Rattle.std.proofs.Common.{◌≡◌, ℕ, List, [], ◌∷◌, map, refl, String, Global, string_bytes, arith, sym, Bool}
+use Rattle.std.specs.{Prelude.option_map, Prelude.is_some, Prelude.bytes_eq, List.list_any, List.find, Map.lookup, Prelude.position, Map.keys_of}
 use Rattle.mml_lab.specs.{AccountView.entry_account, Rosters.has_name}
-use Rattle.mml_lab_file.specs.Reading.{number_of, file_ids, node_with, ids_fault, pass_unless}
-use Rattle.mml_ids.proofs.MapLemmas.{find-map, map-map}
+use Rattle.std.proofs.lemmas.List.{length-map}
+use Rattle.mml_ids.proofs.MapLemmas.{list_any-map, position-map, find-map, map-map}
+use Rattle.indexmap.proofs.CallerLemmas.{insert_entry-new}
+use Rattle.mml_lab.proofs.StudentNamedLemmas.{Entry, position_same}
 
--- the program's nodes have the same identifiers as their descriptions in contracts
-pub file_ids-read : (nodes : List RawNode) → map (λ node. number_of node.id) nodes ≡ file_ids (map node_view nodes)
-file_ids-read nodes = map-map (λ node. number_of node.id) node_view nodes
+-- some element of a mapped list passes the test exactly if the test after the map passes for some element
+pub list_any_of_map : {X Y : Type 0} (p : Y → Bool) (f : X → Y) (xs : List X) → list_any p (map f xs) ≡ list_any (λ x. p (f x)) xs
+list_any_of_map p f xs = sym (list_any-map p f xs)
 
--- the first node with an identifier is the same one among the program's nodes and among their descriptions
-pub node_with-read : (nodes : List RawNode) (id : ℕ) → option_map node_view (find (λ node. number_of node.id == id) nodes) ≡ node_with (map node_view nodes) id
-node_with-read nodes id = find-map (λ node. number_of node.id == id) node_view nodes
+-- the first element of a mapped list that passes the test has the index of the first one for which the test after the map passes
+pub position_of_map : {X Y : Type 0} (p : Y → Bool) (f : X → Y) (xs : List X) → position p (map f xs) ≡ position (λ x. p (f x)) xs
+position_of_map p f xs = sym (position-map p f xs)
+
+-- the first element of a mapped list that passes the test is the mapped one for which the test after the map passes first
+pub find_of_map : {X Y : Type 0} (p : Y → Bool) (f : X → Y) (xs : List X) → find p (map f xs) ≡ option_map f (find (λ x. p (f x)) xs)
+find_of_map p f xs = sym (find-map p f xs)
+
+-- mapping twice is mapping by the composition
+pub map_of_map : {X Y Z : Type 0} (g : Y → Z) (f : X → Y) (xs : List X) → map g (map f xs) ≡ map (λ x. g (f x)) xs
+map_of_map g f xs = sym (map-map g f xs)
+
+-- the map of students finds a name at the index of the first student who has it
+pub student_at : (name : List ℕ) (entries : List Entry)
+    → position (has_name name) (map entry_account entries) ≡ position (λ k. bytes_eq name (string_bytes k)) (keys_of entries)
+student_at name entries = sym (position_same name entries)
 
 -- the map of students has a name exactly if some student has it
-pub some-lookup : (name : List ℕ) (entries : List (String Global × String Global))
-    → is_some (lookup (λ k. bytes_eq name (string_bytes k)) entries) ≡ list_any (has_name name) (map entry_account entries)
-some-lookup name [] = refl
-some-lookup name (e ∷ es) = grind (arith, string_bytes, some-lookup name es)
+pub some_lookup : (name : List ℕ) (entries : List (String Global × String Global))
+    → list_any (has_name name) (map entry_account entries) ≡ is_some (lookup (λ k. bytes_eq name (string_bytes k)) entries)
+some_lookup name [] = refl
+some_lookup name (e ∷ es) = grind (arith, string_bytes, some_lookup name es)
 
--- if the identifiers have no error, the file passes the test of its identifiers
-pub table_ok : (nodes : List NodeSpec) (ids : List ℕ) → ids ≡ file_ids nodes → id_fault ids ≡ None → pass_unless (ids_fault nodes) ≡ Ok tt
-unfolding ids_fault
-table_ok nodes ids same sound = rw (← same, sound) refl
+-- an entry with a new key goes to the end of a map
+pub ruleset new_entries = (insert_entry-new)
 
--- an error of the identifiers is the error of the file's test, unless memory ran out
-pub table_fault : (nodes : List NodeSpec) (ids : List ℕ) (e : IdFault) → ids ≡ file_ids nodes → Faults is_id_memory e (id_fault ids)
-    → MatchBool (is_lab_memory (id_fault_as e)) (Unit {0}) (pass_unless (ids_fault nodes) ≡ Err (id_fault_as e))
-unfolding ids_fault
-table_fault nodes ids e same found = grind arith
+-- a mapped list is as long as the list
+pub ruleset mapped_lengths = (length-map)

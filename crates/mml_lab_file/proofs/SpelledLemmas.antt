@@ -11,25 +11,15 @@ two_none (a ∷ []) h = refl
 two_none (a ∷ b ∷ []) h = absurd (h (omega arith))
 two_none (a ∷ b ∷ c ∷ vs) h = refl
 
--- if bytes are UTF-8 and parse as a TOML table, `table_in` returns this table
-pub table_in-some : (bytes : List ℕ) (t : Members) → IsUtf8 bytes → parse_document bytes ≡ Some t → table_in bytes ≡ Some t
-unfolding table_in
-table_in-some bytes t u e = rw (is_utf8-from_IsUtf8 bytes u) e
+-- if bytes are UTF-8 and parse as a TOML table, `spelled` reads the contents of this table
+pub spelled_some : (bytes : List ℕ) (t : Members) → IsUtf8 bytes → parse_document bytes ≡ Some t → spelled bytes ≡ raw_of t
+unfolding spelled table_in
+spelled_some bytes t u e = rw (is_utf8-from_IsUtf8 bytes u, e) refl
 
 none_at : (b : Bool) (o : Option Members) → (b ≡ true → o ≡ None) → cond b o None ≡ None
 none_at b o h = grind arith
 
--- if bytes aren't UTF-8, or don't parse as TOML, `table_in` returns none
-pub table_in-none : (bytes : List ℕ) → (IsUtf8 bytes → parse_document bytes ≡ None) → table_in bytes ≡ None
-unfolding table_in
-table_in-none bytes h = none_at (is_utf8 bytes) (parse_document bytes) (λ e. h (IsUtf8-from_is_utf8 bytes e))
-
--- if `table_in` returns a table, `spelled` reads the contents of this table
-pub spelled-some : (bytes : List ℕ) (t : Members) → table_in bytes ≡ Some t → spelled bytes ≡ raw_of t
-unfolding spelled
-spelled-some bytes t e = rw e
-
--- if `table_in` returns none, `spelled` returns the error `NotToml`
-pub spelled-none : (bytes : List ℕ) → table_in bytes ≡ None → spelled bytes ≡ Err fault.NotToml
-unfolding spelled
-spelled-none bytes e = rw e
+-- if bytes aren't UTF-8, or don't parse as TOML, `spelled` returns the error `NotToml`
+pub spelled_none : (bytes : List ℕ) → (IsUtf8 bytes → parse_document bytes ≡ None) → spelled bytes ≡ Err fault.NotToml
+unfolding spelled table_in
+spelled_none bytes h = rw (none_at (is_utf8 bytes) (parse_document bytes) (λ e. h (IsUtf8-from_is_utf8 bytes e))) refl

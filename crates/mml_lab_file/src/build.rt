@@ -85,6 +85,7 @@ pub(crate) fn registers(
 }
 
 /// Returns the registers of the node with the identifier `id`. If the file has no such node, p is null and m is false.
+#[tactic(auto, using(crate::proofs::RawLemmas::find_of_map))]
 fn registers_with(ids: &IdTable, nodes: &[RawNode], id: u64) -> Regs
     ensures { result ≡ registers_with ids.now (map node_view nodes.now) id }
 {
@@ -133,6 +134,7 @@ pub(crate) fn owners(
 
 /// Returns the owners of the node with the identifier `id`, in the file's order. Returns an empty list if the file has
 /// no such node, and `Memory` if memory runs out. There may be at most 256 students.
+#[tactic(auto, using(crate::proofs::RawLemmas::find_of_map, crate::proofs::RawLemmas::map_of_map))]
 fn owners_with(
     alloc: Global,
     students: &IndexMap<String, String>,
@@ -172,6 +174,7 @@ fn owners_in(
 
 /// Returns the student with this name, or the first student if no student has it. The checks of a file exclude the
 /// second case. There may be at most 256 students.
+#[tactic(auto, using(crate::proofs::RawLemmas::student_at))]
 fn student_named(students: &IndexMap<String, String>, name: &str) -> Student
     requires { length students.now.entries ≤ MAX_STUDENTS }
     ensures { result ≡ student_index (map entry_account students.now.entries) name.now }

@@ -170,6 +170,7 @@ fn check_owners(students: &IndexMap<String, String>, nodes: &[RawNode]) -> Resul
 
 /// Returns how many students a file has. `students.len()` returns the same number; this function has the contract that
 /// the proofs of its callers need.
+#[tactic(auto, using(crate::proofs::RawLemmas::mapped_lengths))]
 fn student_count(students: &IndexMap<String, String>) -> usize
     ensures { result ≡ length (map entry_account students.now.entries) }
 {
@@ -187,7 +188,7 @@ pub(crate) fn pass_unless(fault: Option<LabFault>) -> Result<(), LabFault>
 }
 
 /// Returns `BothOwners` for the first node that has both keys `owner` and `owners`, or `None` if no node has both.
-#[tactic(auto, unfolding(crate::specs::Reading::both_fault))]
+#[tactic(auto, using(crate::proofs::RawLemmas::position_of_map), unfolding(crate::specs::Reading::both_fault))]
 fn both_fault(nodes: &[RawNode]) -> Option<LabFault>
     ensures { result ≡ both_fault (map node_view nodes.now) }
 {
@@ -203,6 +204,7 @@ fn first_with_both(nodes: &[RawNode]) -> Option<usize>
 
 /// Returns the table of the nodes' identifiers, or `Id` with the error that `IdTable::new` returns for them. Returns
 /// `Memory` if memory runs out.
+#[tactic(auto, using(crate::proofs::RawLemmas::map_of_map), unfolding(crate::specs::Reading::ids_fault))]
 fn id_table(alloc: Global, nodes: &[RawNode]) -> Result<IdTable, LabFault>
     ensures tests { Gives is_lab_memory (λ _. tt {0}) result
         (pass_unless (ids_fault (map node_view nodes.now))) }
@@ -241,7 +243,7 @@ fn forms_fault(teacher: &Account, students: &[Account]) -> Option<LabFault>
 }
 
 /// Returns `NoOwner` for the first node with an owner who isn't a student, or `None` if all owners are students.
-#[tactic(auto, unfolding(crate::specs::Reading::no_owner_fault))]
+#[tactic(auto, using(crate::proofs::RawLemmas::position_of_map), unfolding(crate::specs::Reading::no_owner_fault))]
 fn no_owner_fault(students: &IndexMap<String, String>, nodes: &[RawNode]) -> Option<LabFault>
     ensures { result ≡
         no_owner_fault (map entry_account students.now.entries) (map node_view nodes.now) }
@@ -250,7 +252,7 @@ fn no_owner_fault(students: &IndexMap<String, String>, nodes: &[RawNode]) -> Opt
 }
 
 /// Returns `OwnerTwice` for the first node whose two owners are the same student, or `None` if there is no such node.
-#[tactic(auto, unfolding(crate::specs::Reading::owner_twice_fault))]
+#[tactic(auto, using(crate::proofs::RawLemmas::position_of_map), unfolding(crate::specs::Reading::owner_twice_fault))]
 fn owner_twice_fault(nodes: &[RawNode]) -> Option<LabFault>
     ensures { result ≡ owner_twice_fault (map node_view nodes.now) }
 {
@@ -266,6 +268,7 @@ fn first_without_owner(students: &IndexMap<String, String>, nodes: &[RawNode]) -
 }
 
 /// Returns whether some owner of a node isn't a student.
+#[tactic(auto, using(crate::proofs::RawLemmas::list_any_of_map))]
 fn lacks_owner(students: &IndexMap<String, String>, node: &RawNode) -> bool
     ensures { result ≡ lacks_owner (map entry_account students.now.entries) (node_view node.now) }
 {
@@ -339,7 +342,7 @@ fn check_limits(bounds: RawLimits, students: usize) -> Result<(u64, u8), LabFaul
 
 /// Returns `BadPointer` for the first node that points at a node that it isn't linked to, or `None` if there is no such
 /// node.
-#[tactic(auto, unfolding(crate::specs::Reading::pointers_fault))]
+#[tactic(auto, using(crate::proofs::RawLemmas::position_of_map), unfolding(crate::specs::Reading::pointers_fault))]
 fn pointers_fault(links: &[(i64, i64)], nodes: &[RawNode]) -> Option<LabFault>
     ensures { result ≡ pointers_fault links.now (map node_view nodes.now) }
 {

@@ -43,6 +43,7 @@ pub(crate) fn students_map(
 /// Puts the students' names and keys into an empty map, in order. Stops at the first student whose name the teacher or
 /// an earlier student has, and returns `NameTwice` with this student's index, counted from 1. Returns `Memory` if
 /// memory runs out.
+#[tactic(auto, using(crate::proofs::NameTwiceLemmas::at_start, crate::proofs::NameTwiceLemmas::absent, crate::proofs::NameTwiceLemmas::at_end))]
 fn fill(
     found: &mut IndexMap<String, String>,
     teacher: &Account,
@@ -64,6 +65,7 @@ fn fill(
 }
 
 /// Appends a name with its key to the map, which must not have the name yet. Returns `Memory` if memory runs out.
+#[tactic(auto, using(crate::proofs::RawLemmas::new_entries))]
 fn append(found: &mut IndexMap<String, String>, name: String, key: String) -> Result<(), LabFault>
     requires { get string_eq found.old name ≡ None }
     ensures entries { OnOk result (found.new.entries ≡ found.old.entries ++ (name, key) ∷ []) }

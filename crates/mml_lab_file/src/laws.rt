@@ -66,6 +66,7 @@ pub fn links_are_those_of_the_file()
 {}
 
 /// The network of a file without an error has as many links as the file.
+#[tactic(auto, using(crate::proofs::LabFaultLemmas::faultless, crate::proofs::LinkCountLemmas::links_counted))]
 pub fn links_are_counted()
     ensures { (raw : RawSpec) → lab_fault raw ≡ None →
         link_count (lab_in raw).network ≡ length raw.links }
@@ -96,6 +97,7 @@ pub fn owners_are_those_of_the_file()
 {}
 
 /// Each node of a lab that was read from bytes has one owner or two different owners.
+#[tactic(auto, using(crate::proofs::OwnersLemmas::one_or_two, crate::proofs::OwnersLemmas::owners_differ))]
 pub fn labs_have_owners()
     ensures one_or_two { (bytes : List ℕ) (lab : LabValue) (i : ℕ) → lab_of bytes ≡ Ok lab →
         i < length lab.ids →
@@ -120,6 +122,7 @@ pub fn labs_are_those_of_files()
 
 /// By the definitions, no file has the error `Memory`, neither as an error of a lab nor as one of its identifiers.
 /// Whether memory runs out doesn't depend on the file alone.
+#[tactic(auto, using(crate::proofs::LabOfLemmas::no_memory_of_ids, crate::proofs::LabOfLemmas::no_memory, crate::proofs::NoMemoryLemmas::spells_no_memory, crate::proofs::NoMemoryLemmas::spells_no_memory_of_ids))]
 pub fn want_of_memory_is_no_fault()
     ensures identifiers { (raw : RawSpec) → lab_fault raw ≢ Some (fault.Id id.Memory) }
     ensures file { (raw : RawSpec) → lab_fault raw ≢ Some fault.Memory }

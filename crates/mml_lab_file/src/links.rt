@@ -29,7 +29,7 @@ use std::alloc::Global;
 /// for the first link with an end that isn't a node. If there is no such link, returns `Loop` for the first link from a
 /// node to itself. If no link is a loop either, returns `LinkTwice` for the first link that joins the same nodes as a
 /// link before it. Returns `Memory` if memory runs out.
-#[tactic(auto, unfolding(crate::specs::Reading::linked))]
+#[tactic(auto, using(crate::proofs::ChecksLemmas::all_ranked), unfolding(crate::specs::Reading::linked))]
 pub(crate) fn neighbours(
     alloc: Global,
     ids: &IdTable,
@@ -73,6 +73,7 @@ fn lacks_end(nodes: &[RawNode], link: (i64, i64)) -> bool
 
 /// Returns whether one of the file's nodes has the identifier `id`. `has_id` returns the same; this function has the
 /// contract that the proofs of its callers need.
+#[tactic(auto, using(crate::proofs::RawLemmas::list_any_of_map))]
 fn is_node(nodes: &[RawNode], id: i64) -> bool
     ensures { result ≡ is_node (map node_view nodes.now) id }
 {
@@ -111,6 +112,7 @@ fn is_loop(link: (i64, i64)) -> bool
 /// Returns the set of neighbours of each node, by rank. `ids` has the identifiers of the nodes, and the ends of all
 /// links must be among them. Returns `LinkTwice` for the first link that joins the same nodes as a link before it, and
 /// `Memory` if memory runs out.
+#[tactic(auto, using(crate::proofs::NeighboursLemmas::no_rows))]
 fn neighbour_rows(
     alloc: Global,
     ids: &IdTable,
@@ -175,6 +177,7 @@ fn join(rows: &mut [NodeSet], a: Option<Rank>, b: Option<Rank>)
 
 /// Adds `neighbour` to the neighbours of `node`. `rows` has the neighbours of each node, by rank, and must have an
 /// entry for `node`.
+#[tactic(auto, using(mml_lab::proofs::RowLemmas::inserted))]
 fn insert(rows: &mut [NodeSet], node: Rank, neighbour: Rank)
     requires { node < length rows.old }
     ensures { (i q : ℕ) → set.contains (neighbours_at rows.new i) q

@@ -53,6 +53,7 @@ pub struct RawLab {
 
 /// Returns the value under the key `name` of a table, or `None` if the table doesn't have the key. This is
 /// `Table::get`, with the contract that the proofs of its callers need.
+#[tactic(auto, using(toml::proofs::Views::table_get))]
 fn find<'a>(table: &'a Table, name: &str) -> Option<&'a Value>
     ensures { option_map (λ v. view v.now) result ≡ get_member name.now (table_view table.now) }
 {
@@ -325,6 +326,7 @@ fn nodes(alloc: Global, list: &Array) -> Result<Vec<RawNode>, LabFault>
 
 /// Returns the two values of an array that describes a link. Returns `WrongKind(Link)` if the array doesn't have
 /// exactly two values.
+#[tactic(auto, using(crate::proofs::SpelledLemmas::two_none))]
 fn two_of(list: &Array) -> Result<(&Value, &Value), LabFault>
     ensures { Gives is_lab_memory (λ e. (view e.0.now, view e.1.now)) result
         (ok_or (two_of (array_view list.now)) (LabFault.WrongKind Key.Link)) }
@@ -443,7 +445,7 @@ pub fn read_raw(alloc: Global, table: &Table) -> Result<RawLab, LabFault>
 
 /// Returns the contents of a lab file from its bytes. Returns `NotToml` if the bytes aren't TOML. Otherwise returns the
 /// error of `read_raw`, if there is one.
-#[tactic(auto, unfolding(crate::specs::Shape::spelled))]
+#[tactic(auto, using(crate::proofs::SpelledLemmas::spelled_some, crate::proofs::SpelledLemmas::spelled_none))]
 pub fn read_bytes(alloc: Global, bytes: &[u8]) -> Result<RawLab, LabFault>
     ensures { Gives is_lab_memory raw_view result (spelled bytes.now) }
 {

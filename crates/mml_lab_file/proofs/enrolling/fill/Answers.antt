@@ -1,19 +1,13 @@
-use Rattle.std.proofs.{lemmas.Bool.Decides.nat_tests, Common.◌≡◌, Common.◌∷◌, Common.[], Common.◌++◌, Common.◌∙◌, Common.ap, Common.sym, Common.length, Common.arith, Common.append_assoc}
+use Rattle.std.proofs.{Common.◌≡◌, Common.◌∷◌, Common.[], Common.◌++◌, Common.◌∙◌, Common.ap, Common.sym, Common.length, Common.arith, Common.append_assoc}
 use Rattle.std.specs.Vec.Iter.{into_iter_items}
-use Rattle.mml_lab_file.proofs.NameTwiceLemmas.{absent, at_start, at_fault, at_next, at_end}
+use Rattle.mml_lab_file.proofs.NameTwiceLemmas.{at_fault, at_next}
 use Rattle.mml_lab_file.proofs.enrolling.fill.Goals as goal
-
-pub loop-student-init : goal.loop-student-init
-loop-student-init c = grind (arith, at_start)
 
 pub returns-then-is_taken : goal.returns-then-is_taken
 returns-then-is_taken c =
     let at = c.loop-student.invariant in
     let parts = ap (λ zs. c.loop-student.yielded ++ zs) (sym c.in-Some.ensures.steps.0) ∙ at.left in
     search (arith, at_fault)
-
-pub append-requires : goal.append-requires
-append-requires c = grind (arith, nat_tests, absent)
 
 pub loop-student-preserved : goal.loop-student-preserved
 loop-student-preserved c =
@@ -23,11 +17,6 @@ loop-student-preserved c =
     record {
       left = append_assoc c.loop-student.yielded (c.in-Some.student ∷ []) (into_iter_items c.next.new.self) ∙ parts;
       counted = let was = at.counted in let gone = c.in-Some.ensures.steps.1 in let short = ap length steps in omega arith;
-      so_far = at_next c.args.teacher.now c.args.students.items c.loop-student.yielded (into_iter_items c.next.new.self) c.in-Some.student
-          c.loop-student.found.entries c.as_str.result.now c.as_str-in-loop-student.result.now c.is_taken.result
-          c.append.new.found.entries at.so_far parts
-          c.in_ok-append.ensures.entries c.as_str.ensures.value c.as_str-in-loop-student.ensures.value c.is_taken.ensures c.if-is_taken.false;
+      so_far = at_next _ _ _ _ _ _ _ _ _ _ at.so_far parts c.in_ok-append.ensures.entries
+          c.as_str.ensures.value c.as_str-in-loop-student.ensures.value c.is_taken.ensures c.if-is_taken.false;
     }
-
-pub returns : goal.returns
-returns c = grind (arith, at_end)

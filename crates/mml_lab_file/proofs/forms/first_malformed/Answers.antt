@@ -1,5 +1,4 @@
-use Rattle.std.proofs.Common.{◌≡◌, ◌∙◌, ap, sym, map, suc, not, false, rules, arith}
-use Rattle.std.specs.Prelude.{option_map}
+use Rattle.std.proofs.Common.{◌≡◌, map, not, false, rules, arith}
 use Rattle.mml_lab.specs.{AccountView.account_view, Rosters.is_account}
 use Rattle.mml_ids.proofs.MapLemmas.{position-map, position-first, position-later}
 use Rattle.mml_lab_file.proofs.forms.first_malformed.Goals as goal
@@ -10,7 +9,7 @@ returns-then-not-is_account c = grind (arith, position-first)
 pub returns : goal.returns
 returns c =
     let good : not (is_account (account_view c.args.teacher.now)) ≡ false = search rules in
-    let mapped : c.map.result ≡ option_map suc c.first_malformed_student.result = search rules in
-    mapped
-    ∙ ap (option_map suc) (c.first_malformed_student.ensures.value ∙ position-map (λ a. not (is_account a)) account_view c.args.students.now)
-    ∙ sym (position-later (λ a. not (is_account a)) (account_view c.args.teacher.now) (map account_view c.args.students.now) good)
+    rw (
+      position-later (λ a. not (is_account a)) (account_view c.args.teacher.now) (map account_view c.args.students.now) good,
+      ← position-map (λ a. not (is_account a)) account_view c.args.students.now,
+    ) (search rules)

@@ -3,12 +3,9 @@ use Rattle.std.proofs.lemmas.List.{take_at, get_or_default}
 use Rattle.mml_ids.proofs.SearchLemmas.{first_next}
 use Rattle.mml_rules.specs.{Configuration.holds, Network.neighbours_at}
 use Rattle.mml_lab_file.specs.{Reading.is_link_again, inside.Checks.rank_at, inside.Checks.are_near}
-use Rattle.mml_lab_file.proofs.{NeighboursLemmas.no_rows, NeighboursLemmas.one_more, ChecksLemmas.again-at, ChecksLemmas.again-found, ChecksLemmas.again-none, ChecksLemmas.all-rows}
+use Rattle.mml_lab_file.proofs.{NeighboursLemmas.one_more, ChecksLemmas.again-at, ChecksLemmas.again-found, ChecksLemmas.again_none, ChecksLemmas.all_rows_are}
 use Rattle.std.specs.FinSet as sets
 use Rattle.mml_lab_file.proofs.links.neighbour_rows.Goals as goal
-
-pub loop-index-init : goal.loop-index-init
-loop-index-init c = grind (arith, no_rows)
 
 pub returns-then-are_near : goal.returns-then-are_near
 returns-then-are_near c =
@@ -53,4 +50,4 @@ loop-index-preserved c =
     })
 
 pub returns : goal.returns
-returns c = grind (arith, again-none, all-rows)
+returns c = grind (arith, again_none, all_rows_are)
