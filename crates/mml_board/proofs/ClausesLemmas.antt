@@ -1,12 +1,11 @@
 -- What follows if all clauses of an act hold, and that the clauses of the resulting event's own act then hold, too.
 -- Other crates use these lemmas instead of the clauses.
 use Rattle.std.proofs.Common.{◌≡◌, ℕ, ◌<◌, ◌-◌, ◌==◌, Bool, true, cond, not, ◌&&◌, None, Some, is_none, Result, Ok, refl, ap, ◌∙◌, arith}
-use Rattle.std.specs.{Option.ok_or, Result.IfOk, Result.is_ok}
+use Rattle.std.{specs.Option.ok_or, specs.Result.IfOk, specs.Result.is_ok, proofs.lemmas.Bool.Decides.nat_tests, proofs.lemmas.Bool.and_from, proofs.lemmas.Bool.lt-ltb, proofs.lemmas.Bool.eq-eqb}
 use Rattle.mml_ids.proofs.GivesLemmas.{bind-if, need-if}
 use Rattle.mml_board.specs.declared.{act.Act.Act, denial.Denial.Denial, event.Event.Event}
 use Rattle.mml_board.specs.{ActNodes.AreAllThere, World.World, World.size, World.configuration, World.chosen_at, Events.is_possible, Events.is_legal}
-use Rattle.mml_board.specs.Clauses.{check, asker, act_of, anybodys, is_node, may_point, is_chosen, is_any_chosen, node_in}
-use Rattle.std.proofs.lemmas.Bool.{Decides.nat_tests, and_from, lt-ltb, eq-eqb, false≢true}
+use Rattle.mml_board.specs.Clauses.{check, asker, act_of, is_node, may_point, is_chosen, is_any_chosen, node_in}
 use Rattle.mml_ids.specs.Gives.{◌>>=◌, ◌>>◌, need}
 use Rattle.mml_rules.specs.{declared.rule.Rule.Rule, Rules.guard}
 use Rattle.mml_lab.specs.{declared.who.Who.Who, Rosters.RosterValue, Rosters.owns}
@@ -34,22 +33,14 @@ is_fit w (event.Fault i registers) = is_node w i && may_point (configuration w) 
 is_fit w (event.Link a b) = (is_node w a && is_node w b) && (not (a == b) && not ((configuration w).linked a b))
 is_fit w (event.Cut a b) = (configuration w).linked a b
 
-fits : (w : World) (e : Event) → IfOk (check anybodys w (asker e) (act_of w e)) (λ f. is_fit w e ≡ true)
-fits w e = grind (arith, nat_tests, bind-if, need-if, node_in-ok, and_from)
-
 pub fit : (w : World) (e : Event) → is_possible w e ≡ true → is_fit w e ≡ true
 unfolding is_possible
-fit w e h = grind (arith, nat_tests, false≢true, is_fit w e ≡ true, check anybodys w (asker e) (act_of w e), fits w e)
+fit w e h = grind (arith, nat_tests, ok-bind, node_in-ok, and_from)
 
 -- a legal event is possible
 pub legal_possible : (r : RosterValue) (w : World) (e : Event) → is_legal r w e ≡ true → is_possible w e ≡ true
 unfolding is_possible is_legal
 legal_possible r w e h = grind (arith, nat_tests, ok-bind, ok-from)
-
--- the student of a legal move owns its node
-pub legal_owned : (r : RosterValue) (w : World) (s i : ℕ) (q : Rule) → is_legal r w (event.Grant s i q) ≡ true → owns r (who.Student s) i ≡ true
-unfolding is_legal
-legal_owned r w s i q h = grind (arith, nat_tests, ok-bind, node_in-ok)
 
 -- ---- the act that asks for the event of a granted act
 
@@ -61,22 +52,14 @@ node_back w i d l = ap (λ b. ok_or (cond b (Some i) None) d) (lt-ltb i (size w)
 pub need-well : {B E : Type 0} (b : Bool) (e : E) (t : Result B E) → b ≡ true → is_ok t ≡ true → is_ok (need b e >> t) ≡ true
 need-well b e t h k = ap (λ c. is_ok (need c e >> t)) h ∙ k
 
-module _ (owned : Who → ℕ → Bool) (w : World) (x : Who) where
-  -- all clauses of the act that asks for this event hold
-  abbrev pub IsAgain : Event → Type 0
-  IsAgain e = is_ok (check owned w (asker e) (act_of w e)) ≡ true
-
-  -- if all clauses of an act hold, and lead to an event, those of the act that asks for this event hold, too
-  pub again : (a : Act) → AreAllThere (size w) a → IfOk (check owned w x a) IsAgain
-  again a there = grind (arith, nat_tests, bind-if, need-if, node_back, eq-eqb)
-
 -- the student of a move owns its node; for other events nothing is required
 abbrev pub has_right_owner : RosterValue → Event → Bool
 has_right_owner r (event.Grant s i q) = owns r (who.Student s) i
 has_right_owner r _ = true
 
 pub right_owner : (r : RosterValue) (w : World) (e : Event) → is_legal r w e ≡ true → has_right_owner r e ≡ true
-right_owner r w e h = grind (arith, nat_tests, legal_owned)
+unfolding is_legal
+right_owner r w e h = grind (arith, nat_tests, ok-bind, node_in-ok)
 
 -- ---- possible events
 
@@ -98,18 +81,10 @@ owned_legal r w e owner h = grind (arith, nat_tests, ok-bind, node_in-ok, ok-fro
 
 -- ---- the act that asks for an event
 
--- if the clauses of the act that asks for event e hold, they lead to e
-module _ (owned : Who → ℕ → Bool) (w : World) where
-  pub own_event : (e : Event) → IfOk (check owned w (asker e) (act_of w e)) (λ f. f ≡ e)
-  own_event e = grind (arith, nat_tests, bind-if, need-if, node_in-ok)
-
-ok_same : {A E : Type 0} (s : Result A E) (a : A) → is_ok s ≡ true → IfOk s (λ b. b ≡ a) → s ≡ Ok a
-ok_same s a h same = grind (arith, nat_tests, false≢true)
-
 -- the clauses of the act that asks for a legal event hold, and lead to this event
 pub legal_ok : (r : RosterValue) (w : World) (e : Event) → is_legal r w e ≡ true → check (owns r) w (asker e) (act_of w e) ≡ Ok e
 unfolding is_legal
-legal_ok r w e h = ok_same (check (owns r) w (asker e) (act_of w e)) e h (own_event (owns r) w e)
+legal_ok r w e h = grind (arith, nat_tests, ok-bind, node_in-ok)
 
 -- an event is legal exactly if the clauses of the act that asks for it hold
 pub legal_is : (r : RosterValue) (w : World) (e : Event) → is_legal r w e ≡ is_ok (check (owns r) w (asker e) (act_of w e))
@@ -119,4 +94,4 @@ legal_is r w e = refl
 -- if the clauses of an act hold, they lead to a legal event
 pub again_legal : (r : RosterValue) (w : World) (x : Who) (a : Act) → AreAllThere (size w) a → IfOk (check (owns r) w x a) (λ e. is_legal r w e ≡ true)
 unfolding is_legal
-again_legal r w x a there = again (owns r) w x a there
+again_legal r w x a there = grind (arith, nat_tests, bind-if, need-if, node_back, eq-eqb)

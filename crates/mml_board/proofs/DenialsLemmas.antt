@@ -35,15 +35,7 @@ module _ (owned : Who → ℕ → Bool) (w : World) (x : Who) where
   abbrev D : Denial → Type 0
   D d = is_of_act w d ≡ true
 
-  stale_here : D (denial.Stale w.number)
-  stale_here = eq-eqb w.number w.number refl
-
-  node_err : (o : Option ℕ) (d : Denial) → D d → (e : Denial) → ok_or o d ≡ Err e → D e
-  node_err o d = of_err D o d
-
-  rule_err : (o : Option Rule) (d : Denial) → D d → (e : Denial) → ok_or o d ≡ Err e → D e
-  rule_err o d = of_err D o d
-
   -- each denial of an act has a clause number from 1 to 4, and can name only the current configuration
   pub denied_of_act : (a : Act) → IfErr (check owned w x a) D
-  denied_of_act a = grind (arith, nat_tests, bind-deny, need-deny, node_err, rule_err, (student_err D), (pointer_err D), stale_here)
+  denied_of_act a =
+      grind (arith, nat_tests, bind-deny, need-deny, of_err D {A = ℕ}, of_err D {A = Rule}, student_err D, pointer_err D, eq-eqb w.number w.number refl)

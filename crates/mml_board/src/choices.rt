@@ -38,6 +38,7 @@ impl Model for Choices {
 
 impl Choices {
     /// Returns the choices of `count` nodes, none of which has a chosen move. Returns `Memory` if memory runs out.
+    #[tactic(auto, using(crate::proofs::ChoicesLemmas::without_moves))]
     pub fn none(alloc: Global, count: usize) -> Result<Choices, Memory>
         ensures { IfOk result (λ choices. choices ≡ replicate count None) }
     {
@@ -97,6 +98,7 @@ impl Choices {
     }
 
     /// Drops every chosen move.
+    #[tactic(auto, using(crate::proofs::ChoicesLemmas::without_moves))]
     pub fn drop_all(&mut self)
         ensures { self.new ≡ replicate (length self.old) None }
     {

@@ -39,6 +39,7 @@ pub fn move_chosen(network: &mut IndexedNetwork, effects: &mut [Regs], chosen: &
 /// Computes the registers of each of `nodes` after its chosen move, and writes them into `effects`, by rank. `effects`
 /// and `chosen` must have an entry for each node. `nodes` are the nodes that have a chosen move, and the guard of each
 /// move must hold.
+#[tactic(auto, using(crate::proofs::KeptLemmas::each_step))]
 fn compute_effects(network: &IndexedNetwork, effects: &mut [Regs], chosen: &Choices, nodes: NodeSet)
     requires choices { length chosen.now ≡ length network.now.registers }
     requires room { length effects.old ≡ length network.now.registers }
@@ -73,6 +74,7 @@ fn moved(network: &IndexedNetwork, node: Rank, rule: Option<Rule>) -> Regs
 
 /// Writes the new registers of each of `nodes` into the network. `effects` has these registers by rank, with an entry
 /// for each node of the network. Their pointers must be null or lead to neighbours.
+#[tactic(auto, using(crate::proofs::KeptLemmas::each_step))]
 fn write_effects(network: &mut IndexedNetwork, effects: &[Regs], nodes: NodeSet)
     requires room { length effects.now ≡ length network.old.registers }
     requires within { (i : ℕ) → set.contains nodes i ≡ true → i < length network.old.registers }

@@ -114,6 +114,7 @@ impl IndexedNetwork {
     }
 
     /// Returns the candidates of a node, which must exist. A seduction of the node chooses the greatest of them.
+    #[tactic(auto, using(crate::proofs::RowsLemmas::candidates_read))]
     fn candidates(&self, node: Rank) -> NodeSet
         requires { node < length self.now.registers }
         ensures { (j : ℕ) → set.contains result j ≡
@@ -157,6 +158,7 @@ impl IndexedNetwork {
 
     /// Removes the link between two nodes, if there is one, and sets the pointers along it to null. The nodes must
     /// exist. The pointers are set first, which also updates the index.
+    #[tactic(auto, using(crate::proofs::RowsLemmas::cut_again))]
     pub fn cut(&mut self, a: Rank, b: Rank)
         requires a { a < length self.old.registers }
         requires b { b < length self.old.registers }
@@ -190,6 +192,7 @@ impl IndexedNetwork {
 /// Moves a node from the suitors of `from`, at which it pointed, to the suitors of `to`, at which it points now. `None`
 /// means a null pointer. `suitors` has the nodes that point at each node, by rank, and must have an entry for `from`
 /// and `to`.
+#[tactic(auto, using(crate::proofs::RowsLemmas::suitor_lengths))]
 fn move_suitor(suitors: &mut [NodeSet], node: Rank, from: Option<Rank>, to: Option<Rank>)
     requires from { (i : ℕ) → from ≡ Some i → i < length suitors.old }
     requires to { (i : ℕ) → to ≡ Some i → i < length suitors.old }
@@ -201,6 +204,7 @@ fn move_suitor(suitors: &mut [NodeSet], node: Rank, from: Option<Rank>, to: Opti
 
 /// Adds a node to the suitors of the node `p` if `is_in` is true, and otherwise removes it from them. Does nothing if
 /// `p` is `None`. `suitors` has the nodes that point at each node, by rank, and must have an entry for `p`.
+#[tactic(auto, using(crate::proofs::MonitorLemmas::row_told, std::proofs::lemmas::Bool::Decides::nat_tests, std::proofs::lemmas::List::get_or_default))]
 fn put_suitor(suitors: &mut [NodeSet], p: Option<Rank>, node: Rank, is_in: bool)
     requires { (i : ℕ) → p ≡ Some i → i < length suitors.old }
     ensures { suitors.new ≡

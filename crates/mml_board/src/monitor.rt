@@ -47,6 +47,7 @@ pub fn refresh(network: &IndexedNetwork, privileged: NodeSet, changed: NodeSet) 
 
 /// Returns the set `privileged` with each of `nodes` tested again: added if it is privileged now, and otherwise
 /// removed.
+#[tactic(auto, using(crate::proofs::KeptLemmas::each_step))]
 fn refresh_each(network: &IndexedNetwork, privileged: NodeSet, nodes: NodeSet) -> NodeSet
     ensures { (j : ℕ) → set.contains result j ≡
         (if set.contains nodes j then is_privileged_node (configuration_of network.now) j

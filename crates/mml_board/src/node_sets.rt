@@ -14,6 +14,7 @@ pub fn link_ends(a: Rank, b: Rank) -> NodeSet
 }
 
 /// Returns the set with `node` in it if `is_in` is true, and otherwise without it. The other ranks stay as they are.
+#[tactic(auto, using(mml_ids::specs::inside::WordsLemmas::has_insert, mml_ids::specs::inside::WordsLemmas::has_remove))]
 pub fn with_or_without(nodes: NodeSet, node: Rank, is_in: bool) -> NodeSet
     ensures { (j : ℕ) → set.contains result j ≡
         (if j == node then is_in else set.contains nodes j) }

@@ -1,7 +1,7 @@
 use Rattle.std.proofs.Common.{◌≡◌, length}
 use Rattle.mml_rules.specs.{Network.registers_at, Network.configuration_of, Rules.moved}
 use Rattle.mml_board.specs.World.{chosen_at}
-use Rattle.mml_board.proofs.EachLemmas.{IsDone}
+use Rattle.mml_board.proofs.KeptLemmas.{IsDone}
 use Rattle.std.specs.FinSet as sets
 use Rattle.mml_board.proofs.effects.compute_effects.Given as goal
 

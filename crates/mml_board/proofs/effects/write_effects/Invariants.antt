@@ -1,7 +1,7 @@
 use Rattle.std.proofs.Common.{◌≡◌, length}
 use Rattle.std.specs.FinSet as sets
 use Rattle.mml_rules.specs.Network.{registers_at}
-use Rattle.mml_board.proofs.EachLemmas.{IsDone}
+use Rattle.mml_board.proofs.KeptLemmas.{IsDone}
 use Rattle.mml_board.proofs.effects.write_effects.Given as goal
 
 abbrev pub invariant-loop-node : goal.invariant-loop-node

@@ -1,7 +1,7 @@
 use Rattle.std.specs.FinSet as sets
 use Rattle.mml_rules.specs.Network.{configuration_of}
 use Rattle.mml_board.specs.inside.Monitor.{is_privileged_node}
-use Rattle.mml_board.proofs.EachLemmas.{IsDone}
+use Rattle.mml_board.proofs.KeptLemmas.{IsDone}
 use Rattle.mml_board.proofs.monitor.refresh_each.Given as goal
 
 abbrev pub invariant-loop-node : goal.invariant-loop-node
