@@ -1,9 +1,9 @@
 -- Which items the lists of a report have, and in which order.
-use Rattle.std.proofs.Common.{◌≡◌, ◌↔◌, ℕ, zero, suc, ◌<◌, Bool, true, ◌&&◌, ltb, List, [], ◌∷◌, ◌++◌, Option, None, Some, inl, inr, arith, refl, sym, ap, ◌∙◌, subst, rules}
+use Rattle.std.proofs.Common.{◌≡◌, ◌↔◌, ℕ, zero, suc, ◌<◌, Bool, true, List, [], ◌∷◌, ◌++◌, Option, Some, inl, inr, arith, refl, sym, ap, ◌∙◌, subst, rules}
 use Rattle.std.specs.List.{All, Contains}
-use Rattle.std.proofs.lemmas.Bool.{and_parts, and_from, lt-ltb, not-true, not_from_false, false_from_ne_true, both_ways, cases_eq, cases_order, Decides.nat_tests}
+use Rattle.std.proofs.lemmas.Bool.{and_parts, and_from, not-true, both_ways, cases_eq, cases_order, Decides.nat_tests}
 use Rattle.std.proofs.lemmas.List.Elements.{All-nil, All-cons, All-append, All-head, All-tail, All-weaker, All-contains, Contains-append_left, Contains-append_right, Contains-append_cases}
-use Rattle.mml_rules.specs.{declared.rule.Kind.Kind, Configuration.Configuration, Configuration.IsLawful, Configuration.holds, Rules.is_married, Rules.enabled_kind, Matching.IsPair, Meaning.IsMarried}
+use Rattle.mml_rules.specs.{declared.rule.Kind.Kind, Configuration.Configuration, Configuration.IsLawful, Rules.is_married, Rules.enabled_kind, Matching.IsPair, Meaning.IsMarried}
 use Rattle.mml_rules.proofs.{RulesLemmas.pointee_in, EnabledKindLemmas.guard-kind, EnabledKindLemmas.kind-guard, MeaningLemmas.married-means, MeaningLemmas.guard-means}
 use Rattle.mml_stable.specs.{declared.open_link.OpenLink.OpenLink, Walk.certificate}
 use Rattle.mml_stable.specs.Reports.{each_below, listed_if, pair_at, pairs, is_free, free_nodes, privileged_at, privileged_nodes, is_open, open_link, open_links_at, open_links, is_stable}
@@ -26,17 +26,12 @@ listed b x e = grind (arith, nat_tests)
 
 below : {X : Type 0} (n : ℕ) (f : ℕ → List X) (x : X) → Contains (each_below n f) x → (i : ℕ) × (i < n) × Contains (f i) x
 below zero f x h = absurd (in_nothing x h)
-below (suc n) f x h = elim (Contains-append_cases (each_below n f) (f n) x h) [
-  | inl a ↦ let r = below n f x a in (r.0, omega arith, r.2)
-  | inr b ↦ (n, omega arith, b)
-]
+below (suc n) f x h = grind (arith, Contains-append_cases (each_below n f) (f n) x h, below n f x)
 
 at_below : {X : Type 0} (n : ℕ) (f : ℕ → List X) (x : X) (i : ℕ) → i < n → Contains (f i) x → Contains (each_below n f) x
 at_below zero f x i l h = absurd (omega arith)
-at_below (suc n) f x i l h = elim (cases_eq i n) [
-  | inl e ↦ Contains-append_right (each_below n f) (f n) x (subst (λ j. Contains (f j) x) e h)
-  | inr ne ↦ Contains-append_left (each_below n f) (f n) x (at_below n f x i (omega arith) h)
-]
+at_below (suc n) f x i l h =
+    grind (arith, cases_eq i n, Contains-append_right (each_below n f) (f n) x, Contains-append_left (each_below n f) (f n) x, at_below n f x i)
 
 -- ---- the order of a list
 
@@ -44,9 +39,6 @@ rises_append : {X : Type 0} (R : X → X → Type 0) (xs ys : List X) → Rises 
 rises_append R [] ys hx hy between = hy
 rises_append R (x ∷ xs) ys hx hy between =
     (All-append (R x) xs ys hx.0 (All-head (λ x. All (R x) ys) x xs between), rises_append R xs ys hx.1 hy (All-tail (λ x. All (R x) ys) x xs between))
-
-rises_one : {X : Type 0} (R : X → X → Type 0) (b : Bool) (x : X) → Rises R (listed_if b x)
-rises_one R b x = grind (arith, nat_tests)
 
 -- if the items for each number are in order and have this number as their key, the items for all numbers below n are in
 -- order
@@ -72,20 +64,13 @@ module _ (c : Configuration) (l : IsLawful c) where
   )
 
   pub free_listed : (i : ℕ) → Contains (free_nodes c) i ↔ IsFreeNode c i
-  free_listed i = (to, from)
-    where
-      to : Contains (free_nodes c) i → IsFreeNode c i
-      to h = grind (arith, nat_tests, below c.size (λ i. listed_if (is_free c i) i) i h, if_listed, both_ways, not-true, married-means)
-
-      from : IsFreeNode c i → Contains (free_nodes c) i
-      from h = at_below c.size (λ i. listed_if (is_free c i) i) i i h.0
-          (listed (is_free c i) i (not_from_false (is_married c i) (false_from_ne_true (is_married c i) (λ m. h.1 ((married-means c i l).0 m)))))
+  free_listed i = (
+    (λ h. grind (arith, nat_tests, below c.size (λ i. listed_if (is_free c i) i) i h, if_listed, both_ways, not-true, married-means)),
+    (λ h. at_below c.size (λ i. listed_if (is_free c i) i) i i h.0 (grind (arith, nat_tests, listed {X = ℕ} (is_free c i), married-means c i l))),
+  )
 
   privileged_from : (i : ℕ) (o : Option Kind) (p : ℕ × Kind) → i < c.size → enabled_kind c i ≡ o → Contains (privileged_at i o) p → IsPrivilegedBy c p
-  privileged_from i None p lt e h = absurd (in_nothing p h)
-  privileged_from i (Some k) p lt e h =
-      let r = kind-guard c i k e in
-      subst (IsPrivilegedBy c) (in_one (i, k) p h) (lt, (r.0, r.1, (guard-means c i r.0 l).0 r.2))
+  privileged_from i o p lt e h = grind (arith, nat_tests, in_nothing, in_one, kind-guard c i, guard-means c i)
 
   pub privileged_listed : (p : ℕ × Kind) → Contains (privileged_nodes c) p ↔ IsPrivilegedBy c p
   privileged_listed p = (
@@ -97,31 +82,22 @@ module _ (c : Configuration) (l : IsLawful c) where
   free_means : (i : ℕ) → is_free c i ≡ true → ¬ IsMarried c i
   free_means i h m = both_ways (is_married c i) (not-true (is_married c i) h) ((married-means c i l).1 m)
 
-  free_from : (i : ℕ) → ¬ IsMarried c i → is_free c i ≡ true
-  free_from i h = not_from_false (is_married c i) (false_from_ne_true (is_married c i) (λ m. h ((married-means c i l).0 m)))
-
-  is_open_at : (k : OpenLink) → IsOpenLink c k → is_open c k.a k.b ≡ true
-  is_open_at k o = and_from _ _ o.linked (and_from _ _ (lt-ltb k.a k.b o.lower) (and_from _ _ (free_from k.a o.free_a) (free_from k.b o.free_b)))
-
   -- a link with the ends and the witness of k is k
   is_that_link : (k : OpenLink) (w : ℕ × Kind) → (k.node, k.kind) ≡ w → record { a = k.a; b = k.b; node = w.0; kind = w.1 } ≡ k
   is_that_link k w e = λ z. record { a = k.a; b = k.b; node = (sym e z).0; kind = (sym e z).1 }
 
   pub open_listed : (k : OpenLink) → Contains (open_links c) k ↔ IsOpenLink c k
-  open_listed k = (to, from)
-    where
-      to : Contains (open_links c) k → IsOpenLink c k
-      to h =
-          let a = below c.size (open_links_at c) k h in
-          let b = below c.size (λ b. listed_if (is_open c a.0 b) (open_link c a.0 b)) k a.2 in
-          grind (arith, nat_tests, if_listed (is_open c a.0 b.0) (open_link c a.0 b.0) k b.2, and_parts, free_means)
-
-      from : IsOpenLink c k → Contains (open_links c) k
-      from o =
-          let ends = l.in_range k.a k.b o.linked in
-          at_below c.size (open_links_at c) k k.a ends.0 (at_below c.size (λ b. listed_if (is_open c k.a b) (open_link c k.a b)) k k.b ends.1
-          (subst (Contains (listed_if (is_open c k.a k.b) (open_link c k.a k.b))) (is_that_link k (certificate c k.a k.b) o.witness)
-          (listed (is_open c k.a k.b) (open_link c k.a k.b) (is_open_at k o))))
+  open_listed k = (
+    (λ h.
+        let a = below c.size (open_links_at c) k h in
+        let b = below c.size (λ b. listed_if (is_open c a.0 b) (open_link c a.0 b)) k a.2 in
+        grind (arith, nat_tests, if_listed (is_open c a.0 b.0) (open_link c a.0 b.0) k b.2, and_parts, free_means)),
+    (λ o.
+        let ends = l.in_range k.a k.b o.linked in
+        at_below c.size (open_links_at c) k k.a ends.0 (at_below c.size (λ b. listed_if (is_open c k.a b) (open_link c k.a b)) k k.b ends.1
+        (subst (Contains (listed_if (is_open c k.a k.b) (open_link c k.a k.b))) (is_that_link k (certificate c k.a k.b) o.witness)
+        (listed (is_open c k.a k.b) (open_link c k.a k.b) (grind (arith, nat_tests, o, married-means c k.a l, married-means c k.b l)))))),
+  )
 
   -- ---- the pairs of a stable configuration
 
@@ -133,16 +109,7 @@ module _ (c : Configuration) (l : IsLawful c) where
   }
     where
       matched : (i j : ℕ) → IsPair c i j → IsMatched (pairs c) i
-      matched i j p = elim (cases_order i j) [
-        | inl e ↦ absurd (both_ways (c.linked i i) (l.no_loop i) (subst (λ x. c.linked i x ≡ true) (sym e) (l.to_linked i j p.0)))
-        | inr o ↦ elim o [
-          | inl lt ↦ ((i, j), (pairs_listed (i, j)).1 (lt, p), inl refl)
-          | inr gt ↦ ((j, i), (pairs_listed (j, i)).1 (gt, (p.1, p.0)), inr refl)
-        ]
-      ]
-
-      same : (x y i : ℕ) → c.p i ≡ Some x → c.p i ≡ Some y → x ≡ y
-      same x y i e f = cc
+      matched i j p = grind (arith, cases_order i j, pairs_listed (i, j), pairs_listed (j, i), l.no_loop i, l.to_linked i j)
 
       one : (p q : ℕ × ℕ) (i : ℕ) → IsPairInOrder c p → IsPairInOrder c q → HasEnd i p → HasEnd i q → p ≡ q
       one p q i hp hq ep eq = grind (arith, nat_tests)
@@ -151,33 +118,18 @@ module _ (c : Configuration) (l : IsLawful c) where
 
 module _ (c : Configuration) where
   pub pairs_rise : Rises (λ p q. p.0 < q.0) (pairs c)
-  pairs_rise = rises_below (λ p q. p.0 < q.0) (λ p. p.0) (λ i. pair_at c i (c.p i)) (λ i. keyed i (c.p i)) (λ x y l. l) (λ i. each i (c.p i)) c.size
-    where
-      keyed : (i : ℕ) (o : Option ℕ) → All (λ p. p.0 ≡ i) (pair_at c i o)
-      keyed i None = All-nil (λ p. p.0 ≡ i)
-      keyed i (Some j) = all_listed (λ p. p.0 ≡ i) (ltb i j && holds (c.p j) i) (i, j) (λ _. refl)
-
-      each : (i : ℕ) (o : Option ℕ) → Rises (λ p q. p.0 < q.0) (pair_at c i o)
-      each i None = tt
-      each i (Some j) = rises_one (λ p q. p.0 < q.0) (ltb i j && holds (c.p j) i) (i, j)
+  pairs_rise =
+      rises_below (λ p q. p.0 < q.0) (λ p. p.0) (λ i. pair_at c i (c.p i)) (λ i. grind (arith, nat_tests)) (λ x y l. l) (λ i. grind (arith, nat_tests)) c.size
 
   pub free_rise : Rises (λ i j. i < j) (free_nodes c)
   free_rise =
       rises_below (λ i j. i < j) (λ i. i) (λ i. listed_if (is_free c i) i) (λ i. all_listed (λ j. j ≡ i) (is_free c i) i (λ _. refl)) (λ x y l. l)
-      (λ i. rises_one (λ i j. i < j) (is_free c i) i) c.size
+      (λ i. grind (arith, nat_tests)) c.size
 
   pub privileged_rise : Rises (λ p q. p.0 < q.0) (privileged_nodes c)
   privileged_rise =
-      rises_below (λ p q. p.0 < q.0) (λ p. p.0) (λ i. privileged_at i (enabled_kind c i)) (λ i. keyed i (enabled_kind c i)) (λ x y l. l)
-      (λ i. each i (enabled_kind c i)) c.size
-    where
-      keyed : (i : ℕ) (o : Option Kind) → All (λ p. p.0 ≡ i) (privileged_at i o)
-      keyed i None = All-nil (λ p. p.0 ≡ i)
-      keyed i (Some k) = All-cons (λ p. p.0 ≡ i) (i, k) [] refl (All-nil (λ p. p.0 ≡ i))
-
-      each : (i : ℕ) (o : Option Kind) → Rises (λ p q. p.0 < q.0) (privileged_at i o)
-      each i None = tt
-      each i (Some k) = (All-nil (λ q. i < q.0), tt)
+      rises_below (λ p q. p.0 < q.0) (λ p. p.0) (λ i. privileged_at i (enabled_kind c i)) (λ i. grind (arith, nat_tests)) (λ x y l. l)
+      (λ i. grind (arith, nat_tests)) c.size
 
   -- the open links in the list for a have a as their lower end
   links_have_a : (a : ℕ) → All (λ k. k.a ≡ a) (open_links_at c a)
@@ -194,4 +146,4 @@ module _ (c : Configuration) where
   open_rise = rises_below IsLinkBefore (λ k. k.a) (open_links_at c) links_have_a (λ x y l. inl l) (λ a. strengthen a (open_links_at c a) (links_have_a a)
       (rises_below (λ k l. k.b < l.b) (λ k. k.b) (λ b. listed_if (is_open c a b) (open_link c a b))
       (λ b. all_listed (λ k. k.b ≡ b) (is_open c a b) (open_link c a b) (λ _. refl)) (λ x y l. l)
-      (λ b. rises_one (λ k l. k.b < l.b) (is_open c a b) (open_link c a b)) c.size)) c.size
+      (λ b. grind (arith, nat_tests)) c.size)) c.size

@@ -1,7 +1,6 @@
 -- The lists of a report, as the loops over sets of nodes build them.
-use Rattle.std.proofs.Common.{◌≡◌, ◌≢◌, ℕ, zero, suc, ◌+◌, ◌<◌, Bool, true, false, cond, not, ◌&&◌, eqb, ltb, [], ◌∷◌, ◌++◌, length, map, sym, refl, ap, ◌∙◌, arith, add-one, Option, length-append}
-use Rattle.std.proofs.lemmas.{List.append-nil, Bool.lt-ltb, Bool.le-ltb, Bool.ne_eqb, Bool.and_parts, Bool.cases_lt, Bool.Decides.nat_tests}
-use Rattle.std.specs.{Prelude.is_some, Ordering.nat_cmp, FinSet.FinSet}
+use Rattle.std.proofs.Common.{◌≡◌, ℕ, zero, suc, ◌+◌, ◌<◌, Bool, true, false, cond, not, eqb, [], ◌∷◌, ◌++◌, length, map, sym, refl, ap, ◌∙◌, arith, add-one, Option, length-append}
+use Rattle.std.{proofs.lemmas.List.append-nil, proofs.lemmas.Bool.and_parts, proofs.lemmas.Bool.Decides.nat_tests, specs.Prelude.is_some, specs.Ordering.nat_cmp, specs.FinSet.FinSet}
 use Rattle.mml_ids.specs.{Search.some_below, Sets.those_below, inside.WordsLemmas.has-those_below, inside.WordsLemmas.has_remove}
 use Rattle.mml_ids.proofs.SetsLemmas.{ranks_in, passing, passing_more}
 use Rattle.mml_rules.specs.{declared.rule.Kind.Kind, Configuration.Configuration, Configuration.IsLawful}
@@ -33,30 +32,8 @@ none_listed (suc n) kind = grind (arith, nat_tests, append-nil, length-append, (
 
 -- the set of all free nodes has the free nodes from node 0 on
 pub all_left : (c : Configuration) (free : FinSet nat_cmp) → free ≡ those_below c.size (is_free c) → IsFreeFrom c 0 free
-all_left c free e b =
-    ap (λ s. sets.contains s b) e ∙ has-those_below c.size (is_free c) b
-    ∙ ap (λ t. not t && (ltb b c.size && is_free c b)) (sym (le-ltb b 0 (omega arith)))
-
-past : (a b : ℕ) (x : Bool) → (not (eqb b a) && (not (ltb b a) && x)) ≡ (not (ltb b (a + 1)) && x)
-past a b x = grind (arith, nat_tests, cases_lt, ne_eqb, lt-ltb)
+all_left c free e b = grind (arith, nat_tests, has-those_below c.size (is_free c) b)
 
 -- if node a is removed from the set of the free nodes from a on, this set has the free nodes from a + 1 on
 pub one_past : (c : Configuration) (a : ℕ) (rest left : FinSet nat_cmp) → IsFreeFrom c a rest → left ≡ sets.remove rest a → IsFreeFrom c (a + 1) left
-one_past c a rest left from e b =
-    ap (λ s. sets.contains s b) e ∙ has_remove rest a b ∙ ap (λ t. not (eqb b a) && t) (from b) ∙ past a b (ltb b c.size && is_free c b)
-
--- the set of the free nodes from a on has a exactly if a is free
-pub has_self : (c : Configuration) (a : ℕ) (rest : FinSet nat_cmp) → a < c.size → IsFreeFrom c a rest → sets.contains rest a ≡ is_free c a
-has_self c a rest l from = from a ∙ (rw (le-ltb a a (omega arith), lt-ltb a c.size l) refl)
-
-apart : (a b : ℕ) → a ≢ b → not (ltb b a) ≡ ltb a b
-apart a b ne = grind (arith, nat_tests)
-
--- if a is free, the greater ends of its open links are its neighbours among the free nodes from a on
-pub open_row : (c : Configuration) (a b : ℕ) → IsLawful c → is_free c a ≡ true
-    → (c.linked a b && (not (ltb b a) && (ltb b c.size && is_free c b))) ≡ is_open c a b
-open_row c a b l free = grind (arith, nat_tests)
-
--- a node that isn't free has no open links
-pub no_row : (c : Configuration) (a b : ℕ) → is_free c a ≡ false → false ≡ is_open c a b
-no_row c a b taken = grind (arith, nat_tests)
+one_past c a rest left from e b = grind (arith, nat_tests, has_remove, from b)

@@ -1,10 +1,10 @@
 -- The walk along the pointers rises and ends at a node that is privileged or points nowhere. The walk finds the witness
 -- of an open link. A climb is the walk with a limit on the number of its steps.
-use Rattle.std.proofs.Common.{◌≡◌, ℕ, zero, suc, ◌<◌, ◌≤◌, ◌+◌, Bool, true, false, cond, ◌⊎◌, inl, inr, Option, None, Some, unwrap_or, sym, refl, ap, ◌∙◌, subst, arith, add-one}
+use Rattle.std.proofs.Common.{◌≡◌, ℕ, zero, suc, ◌<◌, ◌≤◌, ◌+◌, true, false, ◌⊎◌, inl, inr, None, Some, sym, refl, ap, ◌∙◌, arith, add-one}
 use Rattle.std.proofs.lemmas.Bool.{both_ways, Decides.nat_tests}
 use Rattle.mml_rules.specs.{declared.rule.Rule.Rule, declared.rule.Kind.Kind, Configuration.Configuration, Configuration.IsLawful}
 use Rattle.mml_rules.specs.Rules.{is_married, guard, kind_of, enabled_kind, is_privileged}
-use Rattle.mml_rules.proofs.{RulesLemmas.none-null, EnabledKindLemmas.guard-kind, EnabledKindLemmas.kind-guard}
+use Rattle.mml_rules.proofs.{RulesLemmas.none-null, RulesLemmas.pointee_in, EnabledKindLemmas.guard-kind, EnabledKindLemmas.kind-guard}
 use Rattle.mml_stable.specs.Walk.{climb, top, unless_seduction, walk, certificate, LeadsTo, LeadsTo.privileged, LeadsTo.null, LeadsTo.onward}
 use Rattle.mml_stable.proofs.MatchingLemmas.{IsQuiet, idle-quiet, idle-settled, quiet-settled, quiet-vain, quiet-alone, may_seduce}
 
@@ -14,33 +14,24 @@ pub record EndsAt (c : Configuration) (i x : ℕ) : Type 0 where
   pub leads : LeadsTo c i x
   pub from : (x ≡ i) ⊎ ((y : ℕ) × (c.p y ≡ Some x))
 
+-- a climb stays at a privileged node
+pub climb_stops : (c : Configuration) (n i : ℕ) → is_privileged c i ≡ true → climb c n i ≡ i
+climb_stops c n i h = grind (arith, nat_tests)
+
+-- a climb stays at a node that isn't privileged and points nowhere
+pub climb_null : (c : Configuration) (n i : ℕ) → is_privileged c i ≡ false → c.p i ≡ None → climb c n i ≡ i
+climb_null c zero i h p = refl
+climb_null c (suc n) i h p = rw (h, p) (climb_null c n i h p)
+
+-- a climb goes on from a node that isn't privileged to the one that it points at
+pub climb_onward : (c : Configuration) (n m i j : ℕ) → m ≡ n + 1 → is_privileged c i ≡ false → c.p i ≡ Some j → climb c m i ≡ climb c n j
+climb_onward c n m i j e h p = ap (λ k. climb c k i) (e ∙ add-one n) ∙ rw (h, p) refl
+
 pub climb-ends : (c : Configuration) → IsLawful c → (n i : ℕ) → c.size ≤ i + n → i < c.size → (is_married c i ≡ false) ⊎ (c.m i ≡ false)
     → EndsAt c i (climb c n i)
 climb-ends c l zero i room i_in free = absurd (omega arith)
-climb-ends c l (suc n) i room i_in free = go (climb-ends c l n) (is_privileged c i) refl
-  where
-    go : ((j : ℕ) → c.size ≤ j + n → j < c.size → (is_married c j ≡ false) ⊎ (c.m j ≡ false) → EndsAt c j (climb c n j)) → (b : Bool)
-        → is_privileged c i ≡ b → EndsAt c i (cond b i (climb c n (unwrap_or (c.p i) i)))
-    go further true e = record { in_range = i_in; leads = privileged e; from = inl refl }
-    go further false e = on (c.p i) refl
-      where
-        is_free : is_married c i ≡ false
-        is_free = elim free [ inl f ↦ f | inr f ↦ sym (idle-settled c i l e) ∙ f ]
-
-        stay : c.p i ≡ None → (k : ℕ) → climb c k i ≡ i
-        stay p zero = refl
-        stay p (suc k) = rw (e, p) (stay p k)
-
-        on : (o : Option ℕ) → c.p i ≡ o → EndsAt c i (climb c n (unwrap_or o i))
-        on None p = subst (λ x. EndsAt c i x) (sym (stay p n)) (record { in_range = i_in; leads = null e p; from = inl refl })
-        on (Some j) p =
-            let up = quiet-vain c i j l (idle-quiet c i l e) p is_free in
-            let r = further j (omega arith) (l.in_range i j (l.to_linked i j p)).1 (inr up.0) in
-            record {
-              in_range = r.in_range;
-              leads = onward e p r.leads;
-              from = elim r.from [ inl s ↦ inr (i, subst (λ x. c.p i ≡ Some x) (sym s) p) | inr y ↦ inr y ];
-            }
+climb-ends c l (suc n) i room i_in free =
+    grind (arith, climb_null c n i, climb-ends c l n, quiet-vain c i, idle-quiet c i l, idle-settled c i l, pointee_in c i, privileged, null, onward)
 
 -- the walk from a node that isn't married, or has m false, ends at this node or at a node at which some node points
 pub top-ends : (c : Configuration) → IsLawful c → (i : ℕ) → i < c.size → (is_married c i ≡ false) ⊎ (c.m i ≡ false) → EndsAt c i (top c i)
@@ -67,48 +58,19 @@ pub record IsWitness (c : Configuration) (e : ℕ × Kind) : Type 0 where
   pub node : e.0 < c.size
   pub kind : enabled_kind c e.0 ≡ Some e.1
 
-kept-witness : (c : Configuration) (x : ℕ) (o : Option Kind) (e : ℕ × Kind) → enabled_kind c x ≡ o → x < c.size → unless_seduction x o ≡ Some e → IsWitness c e
-kept-witness c x o e k x_in h = grind (arith, nat_tests)
-
 pub walk-witness : (c : Configuration) (i : ℕ) (e : ℕ × Kind) → IsLawful c → i < c.size → is_married c i ≡ false → walk c i ≡ Some e → IsWitness c e
-walk-witness c i e l i_in free h = kept-witness c (top c i) (enabled_kind c (top c i)) e refl (top-ends c l i i_in (inl free)).in_range h
+walk-witness c i e l i_in free h = grind (arith, nat_tests, top-ends c l i, enabled_kind c (top c i))
 
 -- the witness of an open link is a node with the rule that is enabled there
 pub certified : (c : Configuration) (a b : ℕ) → IsLawful c → c.linked a b ≡ true → a < b → is_married c a ≡ false → is_married c b ≡ false
     → IsWitness c (certificate c a b)
 unfolding certificate
-certified c a b l linked lt free_a free_b = go (walk c a) (walk c b) refl refl
-  where
-    a_in : a < c.size
-    a_in = (l.in_range a b linked).0
-
-    b_in : b < c.size
-    b_in = (l.in_range a b linked).1
-
-    go : (x y : Option (ℕ × Kind)) → walk c a ≡ x → walk c b ≡ y → IsWitness c (unwrap_or x (unwrap_or y (a, Kind.Seduction)))
-    go (Some e) y ha hb = walk-witness c a e l a_in free_a ha
-    go None (Some e) ha hb = walk-witness c b e l b_in free_b hb
-    go None None ha hb =
-        let qa = idle-stays c a l a_in free_a ha in
-        let qb = idle-stays c b l b_in free_b hb in
-        record { node = a_in; kind = guard-kind c a Rule.Seduction l (may_seduce c a b l linked lt qa.0 qa.1 qb.1 (quiet-settled c b qb.0 ∙ free_b)) }
+certified c a b l linked lt free_a free_b =
+    grind (arith, walk-witness, idle-stays, guard-kind c a Rule.Seduction, may_seduce c a b, quiet-settled, l.in_range a b linked)
 
 -- at a witness, the guard of some rule of the kind that it names holds
 pub witness-guard : (c : Configuration) (e : ℕ × Kind) → IsWitness c e → (r : Rule) × (kind_of r ≡ e.1) × (guard c e.0 r ≡ true)
 witness-guard c e w = kind-guard c e.0 e.1 w.kind
-
--- a climb stays at a privileged node
-pub climb_stops : (c : Configuration) (n i : ℕ) → is_privileged c i ≡ true → climb c n i ≡ i
-climb_stops c n i h = grind (arith, nat_tests)
-
--- a climb stays at a node that isn't privileged and points nowhere
-pub climb_null : (c : Configuration) (n i : ℕ) → is_privileged c i ≡ false → c.p i ≡ None → climb c n i ≡ i
-climb_null c zero i h p = refl
-climb_null c (suc n) i h p = rw (h, p) (climb_null c n i h p)
-
--- a climb goes on from a node that isn't privileged to the one that it points at
-pub climb_onward : (c : Configuration) (n m i j : ℕ) → m ≡ n + 1 → is_privileged c i ≡ false → c.p i ≡ Some j → climb c m i ≡ climb c n j
-climb_onward c n m i j e h p = ap (λ k. climb c k i) (e ∙ add-one n) ∙ rw (h, p) refl
 
 -- if a climb from x stays at x, and reaches the end of the walk from i, then x is this end
 pub top_is : (c : Configuration) (i n x : ℕ) → climb c n x ≡ climb c c.size i → climb c n x ≡ x → x ≡ top c i
@@ -119,4 +81,5 @@ top_is c i n x e stays = sym stays ∙ e
 pub rises : (c : Configuration) (i j : ℕ) → IsLawful c → is_privileged c i ≡ false → (is_married c i ≡ false) ⊎ (c.m i ≡ false) → c.p i ≡ Some j
     → (i < j) × (c.m j ≡ false)
 rises c i j l idle free p =
-    grind (arith, nat_tests, quiet-vain c i j l (idle-quiet c i l idle) p (elim free [ inl f ↦ f | inr f ↦ sym (idle-settled c i l idle) ∙ f ]), idle-quiet, idle-settled)
+    let up = quiet-vain c i j l (idle-quiet c i l idle) p (elim free [ inl f ↦ f | inr f ↦ sym (idle-settled c i l idle) ∙ f ]) in
+    (up.1, up.0)

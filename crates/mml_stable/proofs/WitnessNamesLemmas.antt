@@ -1,11 +1,11 @@
 -- If nodes get other names in the same order, each open link has the same node as its witness. A climb is the walk
 -- along the pointers with a limit on the number of its steps.
-use Rattle.std.proofs.Common.{◌≡◌, ◌⊎◌, ℕ, zero, suc, ◌<◌, ◌≤◌, Bool, true, false, Option, None, Some, unwrap_or, is_some, sym, refl, ap, ◌∙◌, subst, arith, inl, inr}
+use Rattle.std.proofs.Common.{◌≡◌, ◌⊎◌, ℕ, zero, suc, ◌<◌, ◌≤◌, true, false, Option, None, Some, unwrap_or, is_some, ap, arith, inl, inr}
 use Rattle.std.proofs.lemmas.Bool.{and_parts, Decides.nat_tests}
-use Rattle.mml_rules.specs.{declared.rule.Kind.Kind, Configuration.Configuration, Configuration.IsLawful, Rules.is_married, Rules.is_privileged, Naming.renamed, Naming.IsRenamed}
+use Rattle.mml_rules.specs.{declared.rule.Kind.Kind, Configuration.Configuration, Configuration.IsLawful, Rules.is_married, Rules.is_privileged, Naming.IsRenamed}
 use Rattle.mml_rules.proofs.{RulesLemmas.pointee_in, NamingLemmas.kind_named}
 use Rattle.mml_stable.specs.{Walk.climb, Walk.top, Walk.certificate, Walk.LeadsTo, Walk.LeadsTo.privileged, Walk.LeadsTo.null, Walk.LeadsTo.onward, Reports.is_open}
-use Rattle.mml_stable.proofs.WalkLemmas.{top-ends, climb_stops, climb_null, climb_onward}
+use Rattle.mml_stable.proofs.WalkLemmas.{top-ends, climb_stops, climb_null}
 
 module _ (f : ℕ → ℕ) (c d : Configuration) (l : IsLawful c) (r : IsRenamed f c d) where
   privileged_at : (i : ℕ) → i < c.size → is_privileged d (f i) ≡ is_privileged c i
@@ -18,20 +18,10 @@ module _ (f : ℕ → ℕ) (c d : Configuration) (l : IsLawful c) (r : IsRenamed
 
   -- if a climb reaches the end of the walk, it reaches the same node under the new names
   climbed : (n m i : ℕ) → n ≤ m → i < c.size → (is_privileged c (climb c n i) ≡ true) ⊎ (c.p (climb c n i) ≡ None) → climb d m (f i) ≡ f (climb c n i)
-  climbed n m i room i_in end = at n m i room i_in end (is_privileged c i) refl (c.p i) refl
-    where
-      at : (n m i : ℕ) → n ≤ m → i < c.size → (is_privileged c (climb c n i) ≡ true) ⊎ (c.p (climb c n i) ≡ None) → (b : Bool) → is_privileged c i ≡ b
-          → (o : Option ℕ) → c.p i ≡ o → climb d m (f i) ≡ f (climb c n i)
-      at n m i room i_in end true e o p = climb_stops d m (f i) (privileged_at i i_in ∙ e) ∙ ap f (sym (climb_stops c n i e))
-      at n m i room i_in end false e None p = grind (arith, climb_null, privileged_at)
-      at zero m i room i_in end false e (Some j) p = absurd (elim end [ inl t ↦ cc | inr none ↦ cc ])
-      at (suc n) zero i room i_in end false e (Some j) p = absurd (omega arith)
-      at (suc n) (suc m) i room i_in end false e (Some j) p =
-          let here : climb c (suc n) i ≡ climb c n j = climb_onward c n (suc n) i j (omega arith) e p in
-          climb_onward d m (suc m) (f i) (f j) (omega arith) (privileged_at i i_in ∙ e) (r.p i i_in ∙ ap (renamed f) p)
-          ∙ at n m j (omega arith) (pointee_in c i j l p) (subst (λ x. (is_privileged c x ≡ true) ⊎ (c.p x ≡ None)) here end) (is_privileged c j) refl
-          (c.p j) refl
-          ∙ ap f (sym here)
+  climbed zero m i room i_in end = grind (arith, nat_tests, climb_stops d m (f i), climb_null d m (f i), privileged_at i, r.p i)
+  climbed (suc n) zero i room i_in end = absurd (omega arith)
+  climbed (suc n) (suc m) i room i_in end =
+      grind (arith, nat_tests, climb_null c n i, climb_null d m (f i), privileged_at i, r.p i, pointee_in c i, climbed n m, is_privileged c i, c.p i)
 
   ends_there : (i x : ℕ) → LeadsTo c i x → (is_privileged c x ≡ true) ⊎ (c.p x ≡ None)
   ends_there i x (privileged h) = inl h

@@ -74,6 +74,7 @@ fn witness_from(board: &Board, kinds: &[Option<Kind>], node: Rank) -> Option<(Ra
 /// Returns this node, with the kind of the rule that is enabled there, or `None` if none is. If there is no such node
 /// within as many steps as there are nodes, returns the node that the last step reached. `kinds` has the kind of the
 /// rule that is enabled at each node, by rank.
+#[tactic(auto, using(crate::proofs::WalkLemmas::top_is, crate::proofs::WalkLemmas::climb_null))]
 fn end_of_walk(board: &Board, kinds: &[Option<Kind>], node: Rank) -> (Rank, Option<Kind>)
     requires kinds { AreKinds (configuration board.now) kinds.now }
     requires node { node < length board.now.network.registers }

@@ -17,7 +17,7 @@ pub(crate) const PLACES: usize = MAX_NODES as usize;
 
 /// Finds the kind of the rule that is enabled at each node, if one is, and writes it into `kinds`, by rank. `kinds`
 /// must have an entry for each node.
-#[tactic(auto, using(crate::proofs::KindsLemmas::one_found, std::proofs::lemmas::Bool::Decides::nat_tests))]
+#[tactic(auto, using(crate::proofs::KindsLemmas::each_kind, std::proofs::lemmas::Bool::Decides::nat_tests))]
 pub(crate) fn find_kinds(board: &Board, kinds: &mut [Option<Kind>])
     requires room { length board.now.network.registers ≤ length kinds.old }
     ensures kinds { AreKinds (configuration board.now) kinds.new }

@@ -27,6 +27,7 @@ use std::alloc::Global;
 /// Returns the report on the board's configuration: its number, its pairs, its free nodes (in no pair), its privileged
 /// nodes, and whether it is stable. The report also has the open links (between free nodes), each with its witness.
 /// Returns `Memory` if memory runs out.
+#[tactic(auto, using(crate::proofs::NamedLemmas::report_names))]
 pub fn report(alloc: Global, board: &Board) -> Result<Report, Memory>
     ensures report { IfOk result (λ report. report ≡ report_of board.now) }
     ensures nodes { IfOk result (NamesNodes (length board.now.network.registers)) }
@@ -153,6 +154,7 @@ fn open_link(board: &Board, kinds: &[Option<Kind>], a: Rank, b: Rank) -> OpenLin
 /// Appends the open links whose lower end is `a` to `all`, each with its witness. `ends` must have exactly the greater
 /// ends of these links. `kinds` has the kind of the rule that is enabled at each node, by rank. Returns `Memory` if
 /// memory runs out, after some of the links may have been appended.
+#[tactic(auto, using(crate::proofs::ReportsLemmas::links_of_ends, mml_ids::proofs::SetsLemmas::all_put, std::proofs::lemmas::Bool::Decides::nat_tests))]
 fn put_open_links(
     all: &mut Vec<OpenLink>,
     board: &Board,

@@ -1,5 +1,4 @@
-use Rattle.std.proofs.Common.{◌∙◌, ap, rules}
-use Rattle.std.specs.FinSet as sets
+use Rattle.std.proofs.Common.{arith, rules}
 use Rattle.mml_board.specs.World.{configuration}
 use Rattle.mml_stable.proofs.ReportsLemmas.{all_left, one_past}
 use Rattle.mml_stable.proofs.reporting.open_links.Goals as goal
@@ -10,6 +9,5 @@ loop-index-init c = search (rules, all_left)
 pub loop-index-preserved : goal.loop-index-preserved
 loop-index-preserved c = record {
   links = search rules;
-  rest = one_past (configuration c.args.board.now) c.loop-index.index c.loop-index.rest c.except-rest.result c.loop-index.invariant.rest
-      (c.except-rest.ensures ∙ ap (sets.remove c.loop-index.rest) c.at-a.ensures);
+  rest = one_past (configuration c.args.board.now) c.loop-index.index c.loop-index.rest _ c.loop-index.invariant.rest (grind arith);
 }
