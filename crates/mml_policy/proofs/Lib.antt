@@ -3,16 +3,11 @@ pub mod ClausesLemmas
 pub mod VerdictLemmas
 pub mod MeaningLemmas
 pub mod CommandMeaningLemmas
-pub mod DeniedLemmas
-pub mod MoveDeniedLemmas
-pub mod ActsLemmas
 pub mod NearLemmas
 pub mod AlikeLemmas
 pub mod AskingLemmas
 pub mod RulingsLemmas
-pub mod LookLemmas
 pub mod AboutLemmas
 pub mod SeenLemmas
 pub mod IdentifiersLemmas
 pub mod VisibleNamesLemmas
-pub mod PrivilegedLemmas

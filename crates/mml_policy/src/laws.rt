@@ -50,6 +50,7 @@ ghost use Rattle.mml_policy.specs.Acts.{is_act};
 ghost use Rattle.mml_policy.specs.Shown.{see_of, look_of};
 
 /// A node is visible to the teacher, to its owners and to the owners of its neighbours, and to no one else.
+#[tactic(auto, using(crate::proofs::VisibleLemmas::visible_means))]
 pub fn visible_means_facts()
     ensures { (r : RosterValue) (c : Configuration) (x : Who) (i : ℕ) → IsLawful c →
         (is_visible r c x i ≡ true) ↔ IsVisible r c x i }
@@ -71,6 +72,7 @@ pub fn a_move_takes_four_facts()
 {}
 
 /// A see is granted exactly if some node has the identifier that it names, and this node is visible to the asker.
+#[tactic(auto, using(crate::proofs::VisibleLemmas::visible_means, std::proofs::lemmas::Bool::Decides::nat_tests))]
 pub fn a_see_takes_a_visible_node()
     ensures { (ids : List ℕ) (r : RosterValue) (w : World) (x : Who) (id : ℕ) →
         IsLawful (configuration w) →
@@ -80,6 +82,7 @@ pub fn a_see_takes_a_visible_node()
 /// A see is answered exactly if some node has the identifier that it names, and this node is visible to the asker. The
 /// answer has the node's registers in the world `w`, and the number of the configuration. Otherwise the see is denied
 /// as hidden.
+#[tactic(auto, using(crate::proofs::VisibleLemmas::visible_means, std::proofs::lemmas::Bool::Decides::nat_tests))]
 pub fn a_see_shows_the_registers()
     ensures seen { (ids : List ℕ) (r : RosterValue) (limit : ℕ) (is_halted : Bool) (w : World)
         (x : Who) (id : ℕ) (s : See) → IsLawful (configuration w) →
@@ -93,6 +96,7 @@ pub fn a_see_shows_the_registers()
 
 /// A look is granted exactly if some node has the identifier that it names, and the asker owns this node or is the
 /// teacher.
+#[tactic(auto, using(std::proofs::lemmas::Bool::Decides::nat_tests))]
 pub fn a_look_takes_an_owner()
     ensures { (ids : List ℕ) (r : RosterValue) (w : World) (x : Who) (id : ℕ) →
         (verdict ids r w x (command.Look id) ≡ verdicts.Show) ↔ MayLook ids r x id }
@@ -122,6 +126,7 @@ pub fn a_fault_takes_a_neighbour()
 
 /// A link is granted exactly if the teacher asks, both identifiers are those of nodes, and these nodes are different
 /// and aren't linked. Otherwise the link is denied by the first of these facts that doesn't hold.
+#[tactic(auto, using(std::proofs::lemmas::Bool::Decides::nat_tests))]
 pub fn a_link_takes_two_unlinked_nodes()
     ensures { (ids : List ℕ) (r : RosterValue) (w : World) (x : Who) (first second : ℕ) →
         IsDecided ids r w x (command.Link first second) (MayLink ids w first second) (DeniesLink ids w x first second) }
@@ -129,6 +134,7 @@ pub fn a_link_takes_two_unlinked_nodes()
 
 /// A cut is granted exactly if the teacher asks, both identifiers are those of nodes, and these nodes are linked.
 /// Otherwise the cut is denied by the first of the three facts that doesn't hold.
+#[tactic(auto, using(std::proofs::lemmas::Bool::Decides::nat_tests))]
 pub fn a_cut_takes_two_linked_nodes()
     ensures { (ids : List ℕ) (r : RosterValue) (w : World) (x : Who) (first second : ℕ) →
         IsDecided ids r w x (command.Cut first second) (MayCut ids w first second) (DeniesCut ids w x first second) }
@@ -136,6 +142,7 @@ pub fn a_cut_takes_two_linked_nodes()
 
 /// A release is granted exactly if the teacher asks, some node has the identifier that the release names, and the node
 /// has a chosen move. Otherwise the release is denied by the first of the three facts that doesn't hold.
+#[tactic(auto, using(std::proofs::lemmas::Bool::Decides::nat_tests))]
 pub fn a_release_takes_a_chosen_node()
     ensures { (ids : List ℕ) (r : RosterValue) (w : World) (x : Who) (id : ℕ) →
         IsDecided ids r w x (command.Release id) (MayRelease ids w id) (DeniesRelease ids w x id) }
@@ -151,6 +158,7 @@ pub fn no_act_is_shown_and_no_view_is_granted()
 {}
 
 /// An event that is granted by the verdict on a command is legal.
+#[tactic(auto, using(crate::proofs::VerdictLemmas::granted_legal))]
 pub fn granted_events_are_legal()
     ensures { (ids : List ℕ) (r : RosterValue) (w : World) (x : Who) (c : Command) (e : Event) →
         length ids ≡ size w → verdict ids r w x c ≡ verdicts.Grant e → is_legal r w e ≡ true }
@@ -159,6 +167,7 @@ pub fn granted_events_are_legal()
 /// An event is legal exactly if the verdict grants it to its asker. The asker of a move is its student, who asks with
 /// the number of the current configuration. The asker of any other event is the teacher. So a list of events can be
 /// checked by asking for verdicts.
+#[tactic(auto, using(crate::proofs::AskingLemmas::granted_iff))]
 pub fn legal_events_are_granted()
     ensures { (ids : List ℕ) (r : RosterValue) (w : World) (e : Event) →
         IsTable ids → IsWorldOf ids w → (is_legal r w e ≡ true) ↔
@@ -167,6 +176,7 @@ pub fn legal_events_are_granted()
 
 /// Let a node be privileged and have no chosen move. Some rule of the kind that is enabled there is granted to each
 /// owner who asks for it with the number of the current configuration. A look shows this kind.
+#[tactic(auto, using(crate::proofs::AskingLemmas::privileged_granted))]
 pub fn privileged_nodes_are_granted()
     ensures { (ids : List ℕ) (r : RosterValue) (w : World) (i : ℕ) → IsTable ids →
         IsWorldOf ids w → i < size w → is_privileged (configuration w) i ≡ true →
@@ -181,6 +191,7 @@ pub fn privileged_nodes_are_granted()
 /// The reply to a student depends on nothing that is hidden from the student. If two worlds look the same to a student
 /// (`Alike`), each command of the student has the same ruling in both. The worlds after the command look the same to
 /// the student again.
+#[tactic(auto, using(crate::proofs::AlikeLemmas::same_ruling, crate::proofs::AlikeLemmas::alike_afterwards))]
 pub fn hidden_values_change_no_ruling()
     ensures ruling { (ids : List ℕ) (r : RosterValue) (limit : ℕ) (is_halted : Bool)
         (w v : World) (s : ℕ)
@@ -194,6 +205,7 @@ pub fn hidden_values_change_no_ruling()
 {}
 
 /// A report is granted exactly if the teacher asks, and denied as `NotTeacher` exactly if a student does.
+#[tactic(auto, using(std::proofs::lemmas::Bool::Decides::nat_tests))]
 pub fn a_report_takes_the_teacher()
     ensures shown { (ids : List ℕ) (r : RosterValue) (w : World) (x : Who) →
         (verdict ids r w x command.Report ≡ verdicts.Show) ↔ (x ≡ who.Teacher) }
@@ -202,6 +214,7 @@ pub fn a_report_takes_the_teacher()
 {}
 
 /// An event happens only if it is legal, the limit of events isn't reached and the journal isn't halted.
+#[tactic(auto, using(crate::proofs::RulingsLemmas::legal_event))]
 pub fn events_that_happen_are_legal()
     ensures { (ids : List ℕ) (r : RosterValue) (limit : ℕ) (is_halted : Bool) (w : World) (x : Who)
         (c : Command) (e : Event) → length ids ≡ size w → event_of (ruling ids r limit is_halted w x c) ≡ Some e →
@@ -210,6 +223,7 @@ pub fn events_that_happen_are_legal()
 
 /// A ruling names only nodes of the lab: those that it shows, those that they point at, and those of an event's effect.
 /// The law says nothing about the set of nodes that a close moves.
+#[tactic(auto, using(crate::proofs::AboutLemmas::ruled_is))]
 pub fn rulings_name_nodes()
     ensures { (ids : List ℕ) (r : RosterValue) (limit : ℕ) (is_halted : Bool) (w : World) (x : Who)
         (c : Command) → IsWorldOf ids w → IsRuled ids (ruling ids r limit is_halted w x c) }
@@ -218,6 +232,7 @@ pub fn rulings_name_nodes()
 /// The identifiers of a lab are names of its nodes in the order of their ranks. So the rules do the same with
 /// identifiers as with ranks, in the lab's network and in each world with the lab's nodes. A number that is no
 /// identifier has no link and no pointer, and its m is false.
+#[tactic(auto, using(crate::proofs::IdentifiersLemmas::identifiers_rename, crate::proofs::IdentifiersLemmas::empty_elsewhere))]
 pub fn identifiers_are_names()
     ensures lab { (lab : LabValue) → IsLab lab →
         IsRenamed (slice_index lab.ids) (configuration_of lab.network)
@@ -233,6 +248,7 @@ pub fn identifiers_are_names()
 
 /// If the nodes get other names in the same order, and each name has the owners of its node, a node is visible to the
 /// same participants. `f` maps a node to its new name.
+#[tactic(auto, using(crate::proofs::VisibleNamesLemmas::visible_named))]
 pub fn visible_keeps_under_names()
     ensures { (f : ℕ → ℕ) (c d : Configuration) (r s : RosterValue) (x : Who) (i : ℕ) →
         IsRenamed f c d → ((j : ℕ) → j < c.size → owners_of s (f j) ≡ owners_of r j) →
