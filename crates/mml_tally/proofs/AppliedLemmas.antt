@@ -3,18 +3,18 @@
 -- its chosen moves, the number of its configuration, and the number of events so far. A list of events is legal if the
 -- rules allow each event after the earlier ones. A grant chooses a move for a node, a release drops it, and a close
 -- applies all chosen moves at once. A fault sets a node's registers, a link joins two nodes, and a cut removes a link.
-use Rattle.std.proofs.Common.{◌≡◌, ℕ, ◌+◌, ◌<◌, ◌≤◌, zero, suc, Bool, true, false, cond, ◌&&◌, eqb, List, [], ◌∷◌, Some, None, is_some, is_none, replicate, refl, ap, ◌∙◌, arith}
-use Rattle.std.{specs.Prelude.count_by, proofs.lemmas.Bool.and_parts, proofs.lemmas.Bool.and_right, proofs.lemmas.Bool.ltb-true, proofs.lemmas.Bool.Decides.nat_tests}
+use Rattle.std.proofs.Common.{◌≡◌, ℕ, ◌+◌, ◌<◌, zero, Bool, true, false, ◌&&◌, eqb, List, [], ◌∷◌, Some, None, is_some, replicate, refl, ap, ◌∙◌, arith}
+use Rattle.std.{specs.Prelude.count_by, proofs.lemmas.Bool.and_parts, proofs.lemmas.Bool.and_right, proofs.lemmas.Bool.Decides.nat_tests}
 use Rattle.mml_ids.specs.Search.{count_below}
-use Rattle.mml_rules.specs.{declared.rule.Rule.Rule, Rules.guard, Rules.kind_of}
+use Rattle.mml_rules.specs.{declared.rule.Rule.Rule, Rules.kind_of}
 use Rattle.mml_lab.specs.Rosters.{RosterValue}
-use Rattle.mml_board.specs.{declared.event.Event.Event, World.World, World.size, World.configuration, World.chosen_at, World.IsWorld, Runs.is_legal_list}
-use Rattle.mml_board.specs.Events.{is_legal, is_node, is_chosen, after, chosen_count}
+use Rattle.mml_board.specs.{declared.event.Event.Event, World.World, World.size, World.chosen_at, World.IsWorld, Runs.is_legal_list}
+use Rattle.mml_board.specs.Events.{is_legal, is_chosen, after, chosen_count}
 use Rattle.mml_board.proofs.{WorldLemmas.none_at, WorldLemmas.chosen_at-set, WorldLemmas.chosen_node, WorldLemmas.after-world, ClausesLemmas.is_fit, ClausesLemmas.fit, ClausesLemmas.legal_possible}
 use Rattle.mml_convergence.specs.Moves.{applied_over}
 use Rattle.mml_convergence.proofs.SumsLemmas.{count_none, count_same}
 use Rattle.mml_tally.specs.{Moves.fate_of, Moves.moves_from, Marks.is_fate_applied, Marks.is_applied}
-use Rattle.mml_tally.proofs.CountsLemmas.{one, more, count_split}
+use Rattle.mml_tally.proofs.CountsLemmas.{one, more, count_split, only_one}
 use Rattle.mml_board.specs.declared.event.Event.TheVariants as event
 
 -- whether the move that is chosen at node i is pending
@@ -31,25 +31,13 @@ nothing_pending w n q es none = count_none n (will w q es) (λ i lt. ap (λ b. b
 
 -- ---- a grant adds its own move
 
-none_past : (n k : ℕ) (b : Bool) → n ≤ k → count_below n (λ j. eqb k j && b) ≡ 0
-none_past zero k b le = refl
-none_past (suc n) k b le = grind (arith, nat_tests, none_past n k b)
-
-pub only_one : (n k : ℕ) (b : Bool) → k < n → count_below n (λ j. eqb k j && b) ≡ one b
-only_one zero k b lt = absurd (omega arith)
-only_one (suc n) k b lt = grind (arith, nat_tests, only_one n k b, none_past n k b)
-
-pending_grant : (w : World) (i : ℕ) (rule : Rule) (s q : ℕ) (es : List Event) → IsWorld w → i < size w → is_none (chosen_at w.chosen i) ≡ true
+pending_grant : (w : World) (i : ℕ) (rule : Rule) (s q : ℕ) (es : List Event) → IsWorld w → is_fit w (event.Grant s i rule) ≡ true
     → pending (after w (event.Grant s i rule)) q es ≡ pending w q es + one (is_fate_applied (fate_of i q es))
-pending_grant w i rule s q es k lt free =
-    count_split (size w) (will (after w (event.Grant s i rule)) q es) (will w q es) (λ j. eqb i j && is_fate_applied (fate_of i q es)) apart
+pending_grant w i rule s q es k fits =
+    let lt : i < size w = grind (arith, nat_tests, fits) in
+    count_split (size w) (will (after w (event.Grant s i rule)) q es) (will w q es) (λ j. eqb i j && is_fate_applied (fate_of i q es))
+    (λ j l. grind (arith, nat_tests, chosen_at-set w.chosen i j (Some rule) (omega (arith, k.choices)), fits))
     ∙ ap (λ n. pending w q es + n) (only_one (size w) i (is_fate_applied (fate_of i q es)) lt)
-  where
-    set_at : (j : ℕ) → chosen_at (after w (event.Grant s i rule)).chosen j ≡ cond (eqb j i) (Some rule) (chosen_at w.chosen j)
-    set_at j = chosen_at-set w.chosen i j (Some rule) (omega (arith, k.choices))
-
-    apart : (j : ℕ) → j < size w → one (will (after w (event.Grant s i rule)) q es j) ≡ one (will w q es j) + one (eqb i j && is_fate_applied (fate_of i q es))
-    apart j l = grind (arith, nat_tests, set_at j, free)
 
 -- ---- a release takes away its own move
 
@@ -75,7 +63,7 @@ none_left w e q es new = grind (arith, nat_tests, nothing_pending, unchosen)
 
 -- the first event of a legal list passes `is_fit`, and leads to a lawful world (`IsWorld`) in which the rest of the
 -- list is legal
-first_of : (r : RosterValue) (w : World) (e : Event) (es : List Event) → IsWorld w → is_legal_list r w (e ∷ es) ≡ true
+pub first_of : (r : RosterValue) (w : World) (e : Event) (es : List Event) → IsWorld w → is_legal_list r w (e ∷ es) ≡ true
     → (is_fit w e ≡ true) × IsWorld (after w e) × (is_legal_list r (after w e) es ≡ true)
 first_of r w e es k legal =
     let both = and_parts (is_legal r w e) (is_legal_list r (after w e) es) legal in
@@ -90,11 +78,8 @@ applied_is r w q [] k legal = let none = never w (size w) in omega (arith, none)
 applied_is r w q (event.Grant s i rule ∷ es) k legal =
     let e = event.Grant s i rule in
     let on = first_of r w e es k legal in
-    let fits = and_parts (is_node w i) (is_none (chosen_at w.chosen i) && guard (configuration w) i rule) on.0 in
-    let free = (and_parts (is_none (chosen_at w.chosen i)) (guard (configuration w) i rule) fits.1).0 in
     let counted = more is_applied (record { place = q; who = s; node = i; kind = kind_of rule; fate = fate_of i (q + 1) es }) (moves_from (q + 1) es) in
-    let granted = pending_grant w i rule s (q + 1) es k (ltb-true i (size w) fits.0) free in
-    grind (arith, nat_tests, counted, applied_is r (after w e) (q + 1) es on.1 on.2, granted)
+    grind (arith, nat_tests, counted, applied_is r (after w e) (q + 1) es on.1 on.2, pending_grant w i rule s (q + 1) es k on.0)
 applied_is r w q (event.Release i ∷ es) k legal =
     let e = event.Release i in
     let on = first_of r w e es k legal in
@@ -103,15 +88,6 @@ applied_is r w q (event.Close ∷ es) k legal =
     let e = event.Close in
     let on = first_of r w e es k legal in
     grind (arith, applied_is r (after w e) (q + 1) es on.1 on.2, pending_close w q es, none_left w e (q + 1) es refl)
-applied_is r w q (event.Fault i registers ∷ es) k legal =
-    let e = event.Fault i registers in
-    let on = first_of r w e es k legal in
-    grind (arith, applied_is r (after w e) (q + 1) es on.1 on.2, never w (size w), none_left w e (q + 1) es refl)
-applied_is r w q (event.Link a b ∷ es) k legal =
-    let e = event.Link a b in
-    let on = first_of r w e es k legal in
-    grind (arith, applied_is r (after w e) (q + 1) es on.1 on.2, never w (size w), none_left w e (q + 1) es refl)
-applied_is r w q (event.Cut a b ∷ es) k legal =
-    let e = event.Cut a b in
+applied_is r w q (e ∷ es) k legal =
     let on = first_of r w e es k legal in
     grind (arith, applied_is r (after w e) (q + 1) es on.1 on.2, never w (size w), none_left w e (q + 1) es refl)

@@ -1,35 +1,28 @@
 -- Each line is counted for one student or for none, and the names of other students change no count. A clause is a
 -- condition under which a request is granted.
-use Rattle.std.proofs.Common.{◌≡◌, ℕ, ◌+◌, Bool, true, cond, ◌&&◌, eqb, List, [], ◌∷◌, map, Option, None, Some, is_none, option_map, ◌↔◌, refl, ◌∙◌, arith}
+use Rattle.std.proofs.Common.{◌≡◌, ℕ, ◌+◌, Bool, true, cond, ◌&&◌, List, [], ◌∷◌, map, Option, None, Some, is_none, option_map, ◌↔◌, refl, arith}
 use Rattle.std.{specs.Prelude.count_by, proofs.lemmas.Bool.cases_eq, proofs.lemmas.Bool.ne_eqb, proofs.lemmas.Bool.Decides.nat_tests}
 use Rattle.mml_convergence.specs.Potential.{sum_below}
-use Rattle.mml_convergence.proofs.SumsLemmas.{sum_zero, sum_split, sum_of_tests}
+use Rattle.mml_convergence.proofs.SumsLemmas.{sum_zero}
 use Rattle.mml_policy.specs.declared.refusal.Refusal.{Refusal}
 use Rattle.mml_tally.specs.declared.{ask.Ask.Ask, ask.Line.Line, student_denials.StudentDenial.StudentDenial}
 use Rattle.mml_tally.specs.Asks.{is_student, asks_by, is_clause, denials_in, denials_of}
 use Rattle.mml_tally.specs.AskMeaning.{asks_of_others, is_denied, total_denied, is_numbered, IsKnownOf, AreAsksOf, asked_under}
-use Rattle.mml_tally.proofs.{CountsLemmas.one, CountsLemmas.more, AppliedLemmas.only_one}
-
--- a line that is kept if b is true adds 1 to the count if b is true and the line passes the test
-kept : (test : Ask → Bool) (a : Ask) (asks : List Ask) (b : Bool) → count_by test (cond b (a ∷ asks) asks) ≡ one (b && test a) + count_by test asks
-kept test a asks b = grind (arith, nat_tests, more)
+use Rattle.mml_tally.proofs.{CountsLemmas.one, CountsLemmas.more, CountsLemmas.kept, CountsLemmas.sum_one, CountsLemmas.sum_more}
 
 -- ---- each line is counted for one student or for none
 
 own : (n : ℕ) (w : Option ℕ) (d : Option ℕ) (b : Bool) → IsKnownOf n w d → sum_below n (λ s. one (is_student s w && b)) + one (is_none w && b) ≡ one b
 own n None d b h = omega (arith, sum_zero n)
-own n (Some t) d b h = let its : sum_below n (λ s. one (eqb t s && b)) ≡ one b = sum_of_tests n (λ s. eqb t s && b) ∙ only_one n t b h.0 in omega (arith, its)
+own n (Some t) d b h = omega (arith, sum_one n t b h.0)
 
 pub asks_sum : (test : Ask → Bool) (n : ℕ) (asks : List Ask) → AreAsksOf n asks
     → sum_below n (λ s. count_by test (asks_by s asks)) + count_by test (asks_of_others asks) ≡ count_by test asks
 asks_sum test n [] h = omega (arith, sum_zero n)
 asks_sum test n (a ∷ asks) h =
-    let rest = asks_sum test n asks h.1 in
-    let each : sum_below n (λ s. count_by test (asks_by s (a ∷ asks))) ≡ sum_below n (λ s. one (is_student s a.who && test a) + count_by test (asks_by s asks)) =
-    λ k. sum_below n (λ s. kept test a (asks_by s asks) (is_student s a.who) k) in
-    let split = sum_split n (λ s. one (is_student s a.who && test a)) (λ s. count_by test (asks_by s asks)) in
     let others = kept test a (asks_of_others asks) (is_none a.who) in
-    omega (arith, rest, each, split, own n a.who a.denied (test a) h.0, others, more test a asks)
+    let more_of = sum_more (λ (s : ℕ) (x : Ask). is_student s x.who) test n a asks in
+    omega (arith, asks_sum test n asks h.1, more_of, own n a.who a.denied (test a) h.0, others, more test a asks)
 
 -- ---- each denied line was denied by one of the clauses 1 to 4
 

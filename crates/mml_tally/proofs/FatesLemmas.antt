@@ -1,8 +1,8 @@
 -- A move is applied by a close exactly if no event between its grant and the close ends it. A grant chooses a move for
 -- a node, a release drops it, and a close applies all chosen moves at once. A fault sets a node's registers, a link
 -- joins two nodes, and a cut removes a link.
-use Rattle.std.proofs.Common.{◌≡◌, ◌↔◌, ℕ, ◌+◌, Bool, true, false, not, cond, ◌&&◌, eqb, List, [], ◌∷◌, ◌++◌, Some, None, unwrap_or, refl, ap, ◌∙◌, sym, arith, length}
-use Rattle.std.{specs.List.list_all, proofs.lemmas.Bool.and_parts, proofs.lemmas.Bool.not-true, proofs.lemmas.Bool.false≢true}
+use Rattle.std.proofs.Common.{◌≡◌, ◌↔◌, ℕ, ◌+◌, true, ◌&&◌, List, [], ◌∷◌, ◌++◌, refl, ap, ◌∙◌, sym, arith, length}
+use Rattle.std.{specs.List.list_all, proofs.lemmas.Bool.Decides.nat_tests}
 use Rattle.mml_board.specs.declared.event.Event.{Event}
 use Rattle.mml_tally.specs.{Moves.fate_of, Meaning.leaves, Meaning.IsNextClose}
 use Rattle.mml_board.specs.declared.event.Event.TheVariants as event
@@ -20,25 +20,13 @@ earlier i q p e es here h = record {
 
 pub close_found : (i q p : ℕ) (es : List Event) → fate_of i q es ≡ fate.Applied p → IsNextClose i q p es
 close_found i q p [] h = cc
-close_found i q p (event.Grant s j rule ∷ es) h = earlier i q p (event.Grant s j rule) es refl (close_found i (q + 1) p es h)
-close_found i q p (event.Release j ∷ es) h = go (eqb j i) refl h (close_found i (q + 1) p es)
-  where
-    go : (b : Bool) → eqb j i ≡ b → unwrap_or (cond b (Some fate.Released) None) (fate_of i (q + 1) es) ≡ fate.Applied p
-        → (fate_of i (q + 1) es ≡ fate.Applied p → IsNextClose i (q + 1) p es) → IsNextClose i q p (event.Release j ∷ es)
-    go true e h more = cc
-    go false e h more = earlier i q p (event.Release j) es (ap not e) (more h)
 close_found i q p (event.Close ∷ es) h = let same : q ≡ p = cc in record { between = []; later = es; events = refl; leave = refl; place = omega (arith, same) }
-close_found i q p (_ ∷ es) h = cc
+close_found i q p (e ∷ es) h = grind (arith, nat_tests, earlier i q p e es, close_found i (q + 1) p es)
 
 applied_past : (i q : ℕ) (between later : List Event) → list_all (leaves i) between ≡ true
     → fate_of i q (between ++ event.Close ∷ later) ≡ fate.Applied (q + length between)
 applied_past i q [] later h = ap fate.Applied (omega arith)
-applied_past i q (event.Grant s j rule ∷ between) later h = applied_past i (q + 1) between later h ∙ ap fate.Applied (omega arith)
-applied_past i q (event.Release j ∷ between) later h =
-    let parts = and_parts (not (eqb j i)) (list_all (leaves i) between) h in
-    ap (λ b. unwrap_or (cond b (Some fate.Released) None) (fate_of i (q + 1) (between ++ event.Close ∷ later))) (not-true (eqb j i) parts.0)
-    ∙ applied_past i (q + 1) between later parts.1 ∙ ap fate.Applied (omega arith)
-applied_past i q (_ ∷ between) later h = absurd (false≢true h)
+applied_past i q (e ∷ between) later h = grind (arith, nat_tests, applied_past i (q + 1) between later)
 
 pub applied_by_close : (i q p : ℕ) (es : List Event) → (fate_of i q es ≡ fate.Applied p) ↔ IsNextClose i q p es
 applied_by_close i q p es = (close_found i q p es, λ h. ap (fate_of i q) h.events ∙ applied_past i q h.between h.later h.leave ∙ ap fate.Applied (sym h.place))

@@ -5,7 +5,6 @@ pub mod TextsLemmas
 pub mod AppliedLemmas
 pub mod MarksLemmas
 pub mod AsksLemmas
-pub mod RefusalsLemmas
 pub mod StudentDenialsLemmas
 pub mod FatesLemmas
 pub mod StudentsLemmas
@@ -14,4 +13,3 @@ pub mod SinceLemmas
 pub mod WaitingLemmas
 pub mod ReplayLemmas
 pub mod RoundsLemmas
-pub mod MostRoundsLemmas

@@ -1,12 +1,12 @@
 -- Each close, fault, link and cut leads to a new configuration, and no other event does. A grant chooses a move for a
 -- node, a release drops it, and a close applies all chosen moves at once. A fault sets a node's registers, a link joins
 -- two nodes, and a cut removes a link.
-use Rattle.std.{proofs.Common.◌≡◌, proofs.Common.ℕ, proofs.Common.◌+◌, proofs.Common.List, proofs.Common.[], proofs.Common.◌∷◌, proofs.Common.arith, specs.Prelude.count_by}
+use Rattle.std.proofs.Common.{◌≡◌, ℕ, ◌+◌, List, [], ◌∷◌, arith}
+use Rattle.std.{specs.Prelude.count_by, proofs.lemmas.Bool.Decides.nat_tests}
 use Rattle.mml_board.specs.{declared.event.Event.Event, World.World, Events.after, Runs.world_of}
 use Rattle.mml_convergence.specs.Moves.{is_close}
 use Rattle.mml_tally.specs.Runs.{is_fault, is_link, is_cut}
 use Rattle.mml_tally.proofs.CountsLemmas.{one, more}
-use Rattle.mml_board.specs.declared.event.Event.TheVariants as event
 
 -- the number of closes, faults, links and cuts together
 abbrev pub changes : List Event → ℕ
@@ -16,11 +16,9 @@ changes es = count_by is_close es + count_by is_fault es + count_by is_link es +
 one_more : (e : Event) (es : List Event) → changes (e ∷ es) ≡ one (is_close e) + one (is_fault e) + one (is_link e) + one (is_cut e) + changes es
 one_more e es = omega (arith, more is_close e es, more is_fault e es, more is_link e es, more is_cut e es)
 
+number_after : (w : World) (e : Event) → (after w e).number ≡ w.number + one (is_close e) + one (is_fault e) + one (is_link e) + one (is_cut e)
+number_after w e = grind (arith, nat_tests)
+
 pub numbers_are : (w : World) (es : List Event) → (world_of w es).number ≡ w.number + changes es
 numbers_are w [] = omega arith
-numbers_are w (event.Grant s i rule ∷ es) = omega (arith, numbers_are (after w (event.Grant s i rule)) es, one_more (event.Grant s i rule) es)
-numbers_are w (event.Release i ∷ es) = omega (arith, numbers_are (after w (event.Release i)) es, one_more (event.Release i) es)
-numbers_are w (event.Close ∷ es) = let rest = numbers_are (after w event.Close) es in let here = one_more event.Close es in omega (arith, rest, here)
-numbers_are w (event.Fault i registers ∷ es) = omega (arith, numbers_are (after w (event.Fault i registers)) es, one_more (event.Fault i registers) es)
-numbers_are w (event.Link a b ∷ es) = omega (arith, numbers_are (after w (event.Link a b)) es, one_more (event.Link a b) es)
-numbers_are w (event.Cut a b ∷ es) = omega (arith, numbers_are (after w (event.Cut a b)) es, one_more (event.Cut a b) es)
+numbers_are w (e ∷ es) = omega (arith, numbers_are (after w e) es, number_after w e, one_more e es)

@@ -48,6 +48,7 @@ pub struct Marks {
 
 /// Returns the counts of a student's moves. `all` must have the moves that the run's events grant to all students.
 /// Returns `Memory` if memory runs out.
+#[tactic(auto, using(std::proofs::lemmas::Bool::Decides::nat_tests, crate::proofs::ClosesLemmas::closes_counted))]
 pub fn marks_of(
     alloc: Global,
     roster: &Roster,

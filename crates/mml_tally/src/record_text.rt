@@ -106,6 +106,7 @@ fn put_record(
 
 /// Appends a line for each student, in the lab's order: how many of the student's lines each clause denied, and how
 /// many weren't requests. `asks` has the lines of the record. Returns `Memory` if memory runs out.
+#[tactic(auto, using(crate::proofs::TextsLemmas::one_line_more))]
 fn put_denied(out: &mut Vec<u8>, alloc: Global, lab: &Lab, asks: &[Ask]) -> Result<(), Memory>
     ensures { OnOk result (out.new.items
         ≡ out.old.items ++ denied_text lab.now asks.now (length lab.now.roster.students)) }

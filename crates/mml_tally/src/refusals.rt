@@ -63,6 +63,7 @@ fn is_refused(reason: Refusal, refused: Option<Refusal>) -> bool
 
 /// Appends a line for each student, in the lab's order: how many of the student's lines were refused for each reason.
 /// `asks` has the lines of everybody. Returns `Memory` if memory runs out.
+#[tactic(auto, using(crate::proofs::TextsLemmas::one_line_more))]
 pub(crate) fn put_refused(
     out: &mut Vec<u8>,
     alloc: Global,

@@ -52,6 +52,7 @@ pub fn rounds_since(alloc: Global, lab: &Lab, events: &[Event]) -> Result<u64, M
 
 /// Applies the first `count` events of a lab's run to a board that is at the beginning of the run. The events must be
 /// legal. `lab` is used only in the contract and its proof.
+#[tactic(auto, using(crate::proofs::ReplayLemmas::one_event_more))]
 fn replay(lab: &Lab, events: &[Event], board: &mut Board, count: usize)
     requires legal { is_legal_in lab.now events.now ≡ true }
     requires board { board.old ≡ opening_of lab.now.network }
@@ -69,6 +70,7 @@ fn replay(lab: &Lab, events: &[Event], board: &mut Board, count: usize)
 /// Returns how many rounds end in the events after the first `since` ones. `board` must be at the state after the first
 /// `since` events, and the later ones are applied to it. The events must be legal. `lab` is used only in the contract
 /// and its proof.
+#[tactic(auto, using(crate::proofs::ReplayLemmas::one_event_more, crate::proofs::WaitingLemmas::rounds_counted))]
 fn count_rounds(lab: &Lab, events: &[Event], board: &mut Board, since: usize) -> u64
     requires legal { is_legal_in lab.now events.now ≡ true }
     requires board { board.old ≡ world_in lab.now (take since events.now) }
@@ -114,6 +116,7 @@ fn moved_nodes(board: &Board, event: &Event) -> NodeSet
 }
 
 /// Returns the set of the privileged nodes.
+#[tactic(auto, unfolding(mml_ids::specs::Sets::those_below, crate::specs::inside::Waiting::privileged_nodes))]
 fn privileged_nodes(board: &Board) -> NodeSet
     ensures { result ≡ privileged_nodes board.now }
 {

@@ -1,8 +1,5 @@
-use Rattle.mml_tally.proofs.SinceLemmas.{since_within, since_rests}
+use Rattle.mml_tally.proofs.SinceLemmas.{moves_within}
 use Rattle.mml_tally.proofs.laws.moves_since_are_within_the_most.Goals as goal
 
-pub returns-clause-within : goal.returns-clause-within
-returns-clause-within c = since_within
-
-pub returns-clause-stable : goal.returns-clause-stable
-returns-clause-stable c = since_rests
+pub returns : goal.returns
+returns c = record { within = λ lab es known legal. (moves_within lab es known legal).0; stable = λ lab es known legal. (moves_within lab es known legal).1 }
