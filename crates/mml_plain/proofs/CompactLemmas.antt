@@ -1,7 +1,7 @@
 -- If a line is read as an object in the usual layout, member by member, its tokens are those of this object.
 -- A spaced token is a token with the white space before it. A byte is bare if it may be in a string without escapes.
 use Rattle.std.proofs.lemmas.{Bool.Decides.nat_tests, Bool.and_parts, Bool.and_from, Bool.eq-eqb, Bool.both_ways, Bool.not-true, Grind.common_steps, List.take_more, List.take_all, Nat.be_bytes_4}
-use Rattle.std.proofs.lemmas.{Fmt.decimal_digit, Fmt.decimal_step, Fmt.IsAscii-decimal, Str.IsUtf8-append, Str.IsUtf8-nil, Str.IsUtf8-from_ascii}
+use Rattle.std.proofs.lemmas.{List.map-append, List.Sums.fold-append, Fmt.decimal_digit, Fmt.decimal_step, Fmt.IsAscii-decimal, Str.IsUtf8-append, Str.IsUtf8-nil, Str.IsUtf8-from_ascii}
 use Rattle.std.proofs.Common.{◌≡◌, ℕ, suc, ◌+◌, ◌-◌, ◌<◌, List, [], ◌∷◌, ◌++◌, length, take, get_or, Bool, true, false, fold, map, not, ◌==◌, Some, refl, sym, ap, inl, ◌∙◌, subst, append_assoc}
 use Rattle.std.proofs.Common.{length-append, decimal, ◌^◌, arith, drop, ◌≢◌, ltb-true, ◌≤◌, ◌*◌, option_map, nat_lt}
 use Rattle.std.specs.{Str.IsUtf8, Int.w32, Int.to_be_bytes, Int.from_be_bytes}
@@ -22,35 +22,24 @@ SpacedTokens = List (List ℕ × Token)
 
 -- the tokens, without their white space
 abbrev pub told : SpacedTokens → List Token
-told [] = []
-told (p ∷ ps) = p.1 ∷ told ps
+told ps = map (λ p. p.1) ps
 
-told_is : (ps : SpacedTokens) → map (λ p. p.1) ps ≡ told ps
-told_is [] = refl
-told_is (p ∷ ps) = ap (λ ts. p.1 ∷ ts) (told_is ps)
+-- these tokens, without white space before them
+abbrev close : List Token → SpacedTokens
+close ts = map (λ t. ([], t)) ts
 
-told_append : (ps qs : SpacedTokens) → told (ps ++ qs) ≡ told ps ++ told qs
-told_append [] qs = refl
-told_append (p ∷ ps) qs = ap (λ ts. p.1 ∷ ts) (told_append ps qs)
-
--- these tokens, without white space before them, and then the spaced tokens
-abbrev close : SpacedTokens → List Token → SpacedTokens
-close ps [] = ps
-close ps (t ∷ ts) = ([], t) ∷ close ps ts
-
-told_close : (ts : List Token) → told (close [] ts) ≡ ts
+told_close : (ts : List Token) → told (close ts) ≡ ts
 told_close [] = refl
 told_close (t ∷ ts) = ap (λ us. t ∷ us) (told_close ts)
 
 ended_append : (c : Bool) (ts us : List Token) → fold (λ _ t. ends t) c (ts ++ us) ≡ fold (λ _ t. ends t) (fold (λ _ t. ends t) c ts) us
-ended_append c [] us = refl
-ended_append c (t ∷ ts) us = ended_append (ends t) ts us
+ended_append c ts us = fold-append (λ _ t. ends t) c ts us
 
 gaps_append : (ps qs : SpacedTokens) → AreGaps ps → AreGaps qs → AreGaps (ps ++ qs)
 gaps_append [] qs h k = k
 gaps_append (p ∷ ps) qs h k = (h.0, gaps_append ps qs h.1 k)
 
-gaps_close : (ts : List Token) → AreGaps (close [] ts)
+gaps_close : (ts : List Token) → AreGaps (close ts)
 gaps_close [] = tt
 gaps_close (t ∷ ts) = (tt, gaps_close ts)
 
@@ -67,7 +56,7 @@ unfolding print_spaced
 spaced_append c [] qs = refl
 spaced_append c (p ∷ ps) qs = grind (arith, grouped, append_assoc, spaced_append (ends p.1) ps qs)
 
-spaced_close : (c : Bool) (ts : List Token) → print_spaced c (close [] ts) ≡ print_from c ts
+spaced_close : (c : Bool) (ts : List Token) → print_spaced c (close ts) ≡ print_from c ts
 unfolding print_spaced print_from
 spaced_close c [] = refl
 spaced_close c (t ∷ ts) = ap (λ l. separator c t ++ (token_text t ++ l)) (spaced_close (ends t) ts)
@@ -135,53 +124,45 @@ over line rest found e a =
     spaced_append false a.us end ∙ ap (λ b. print_spaced false a.us ++ (separator b Token.end_object ++ 125 ∷ [])) a.closed in
     let whole : line ≡ print_spaced false (([], Token.begin_object) ∷ ws) =
     a.text ∙ ap (λ t. 123 ∷ (print_spaced false a.us ++ t)) e ∙ ap (λ t. 123 ∷ t) (sym printed) in
-    let said : told ws ≡ told a.us ++ Token.end_object ∷ [] = told_append a.us end in
+    let said : told ws ≡ told a.us ++ Token.end_object ∷ [] = map-append (λ p. p.1) a.us end in
     let printable : ArePrintable (told ws) = subst ArePrintable (sym said) (printable_append (told a.us) (Token.end_object ∷ []) a.begun.printable (tt, tt)) in
     let read : tokens line ≡ Token.begin_object ∷ (told a.us ++ Token.end_object ∷ []) =
     ap tokens whole
-    ∙ tokens-print_spaced (([], Token.begin_object) ∷ ws) (tt, gaps_append a.us end a.begun.gaps (tt, tt)) (tt, subst ArePrintable (sym (told_is ws)) printable)
-    ∙ ap (λ ts. Token.begin_object ∷ ts) (told_is ws ∙ said) in
+    ∙ tokens-print_spaced (([], Token.begin_object) ∷ ws) (tt, gaps_append a.us end a.begun.gaps (tt, tt)) (tt, printable)
+    ∙ ap (λ ts. Token.begin_object ∷ ts) said in
     ap object_at read ∙ all_read a.us found a.begun
-
--- the tokens of one member, with the white space before its key and its value
-abbrev one_member : List ℕ → List ℕ → List ℕ → Token → List Token → SpacedTokens
-one_member gap k between first others = (gap, Token.key k) ∷ (between, first) ∷ close [] others
 
 member_text : (comma gap key between first others more : List ℕ)
     → comma ++ (gap ++ (key ++ (between ++ (first ++ (others ++ more))))) ≡ (comma ++ (gap ++ (key ++ (between ++ (first ++ others))))) ++ more
 member_text comma gap key between first others more = simp append_assoc
 
 module _ (line rest more k : List ℕ) (v : MemberValue) (found : Members) (m : BeginsMember rest k v more) (b : Before line rest found) where
-  abbrev gap : List ℕ
-  gap = m.spaced.gap
-
-  abbrev between : List ℕ
-  between = m.spaced_value.gap
-
   abbrev first : Token
   first = m.value.first
 
   abbrev others : List Token
   others = m.value.others
 
+  -- the tokens of the member, with the white space before its key and its value
   abbrev one : SpacedTokens
-  one = one_member gap k between first others
+  one = (m.spaced.gap, Token.key k) ∷ (m.spaced_value.gap, first) ∷ close others
 
   abbrev us : SpacedTokens
   us = b.us ++ one
 
   said : told us ≡ told b.us ++ Token.key k ∷ first ∷ others
-  said = told_append b.us one ∙ ap (λ ts. told b.us ++ Token.key k ∷ first ∷ ts) (told_close others)
+  said = map-append (λ p. p.1) b.us one ∙ ap (λ ts. told b.us ++ Token.key k ∷ first ∷ ts) (told_close others)
 
-  one_text : print_spaced (is_value_ended (told b.us)) one ≡ separator (is_value_ended (told b.us)) (Token.key k) ++ (gap ++ (token_text (Token.key k) ++ (between ++ (token_text first ++ print_from (ends first) others))))
+  one_text : print_spaced (is_value_ended (told b.us)) one
+      ≡ separator (is_value_ended (told b.us)) (Token.key k) ++ (m.spaced.gap ++ (token_text (Token.key k)
+      ++ (m.spaced_value.gap ++ (token_text first ++ print_from (ends first) others))))
   unfolding print_spaced
-  one_text = ap (λ l. separator (is_value_ended (told b.us)) (Token.key k) ++ (gap ++ (token_text (Token.key k) ++ (between ++ (token_text first ++ l))))) (spaced_close (ends first) others)
+  one_text = grind (arith, spaced_close (ends first) others)
 
   one_utf8 : IsUtf8 (print_spaced (is_value_ended (told b.us)) one)
   one_utf8 =
-      let value : IsUtf8 (token_text first ++ print_from (ends first) others) = m.value.utf8 in
-      let at_value = IsUtf8-append between _ (IsUtf8-IsGap between m.spaced_value.is_gap) value in
-      let at_key = IsUtf8-append gap _ (IsUtf8-IsGap gap m.spaced.is_gap) (IsUtf8-append (token_text (Token.key k)) _ (IsUtf8-key k m.key_utf8) at_value) in
+      let at_value = IsUtf8-append m.spaced_value.gap _ (IsUtf8-IsGap _ m.spaced_value.is_gap) m.value.utf8 in
+      let at_key = IsUtf8-append _ _ (IsUtf8-IsGap _ m.spaced.is_gap) (IsUtf8-append (token_text (Token.key k)) _ (IsUtf8-key k m.key_utf8) at_value) in
       subst IsUtf8 (sym one_text) (IsUtf8-append (separator (is_value_ended (told b.us)) (Token.key k)) _ (IsUtf8-separator (is_value_ended (told b.us)) (Token.key k)) at_key)
 
   goes_on : (n : ℕ) (ts : List Token) → members_at 126 no_members ((b.begun.turns + 1) + n) (told us ++ ts) ≡ members_at 126 (put k m.value.datum found) n ts
@@ -210,11 +191,8 @@ pub no_space : (text : List ℕ) → Spaced text text
 no_space text = record { gap = []; is_gap = tt; spelled = refl }
 
 pub one_space : (text rest next : List ℕ) → rest ≡ 32 ∷ next → Spaced text rest → Spaced text next
-one_space text rest next e s = record {
-  gap = s.gap ++ 32 ∷ [];
-  is_gap = IsGap-append s.gap (32 ∷ []) s.is_gap (inl refl, tt);
-  spelled = s.spelled ∙ ap (λ l. s.gap ++ l) e ∙ sym (append_assoc s.gap (32 ∷ []) next);
-}
+one_space text rest next e s =
+    record { gap = s.gap ++ 32 ∷ []; is_gap = IsGap-append s.gap (32 ∷ []) s.is_gap (inl refl, tt); spelled = grind (arith, append_assoc) }
 
 -- ---- words
 

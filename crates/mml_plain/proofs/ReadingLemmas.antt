@@ -2,7 +2,7 @@
 use Rattle.std.proofs.Common.{◌≡◌, ℕ, suc, ◌-◌, ◌<◌, ◌≤◌, List, [], ◌∷◌, length, Bool, false, Option, Some, None, Bor, option_map, option_and_then, refl, sym, ap, ◌∙◌, arith}
 use Rattle.std.{specs.Str.is_utf8, specs.Str.IsUtf8, proofs.lemmas.Str.is_utf8-from_IsUtf8, proofs.lemmas.Str.IsUtf8-from_is_utf8}
 use Rattle.json.specs.{Token.Token, Lex.tokens, Json.parse_map, Json.after_end_array, Json.read_key, Json.items, Json.members, Json.value, Json.if_last}
-use Rattle.json.proofs.Grammar.{value_is, value-begin_array, value-begin_object}
+use Rattle.json.proofs.Grammar.{left, left-parse_map, value_is, value-begin_array, value-begin_object}
 use Rattle.serde_json.specs.Data.{Data, Num, null, boolean, number, string, array, object, Items, no_items, item, Members, no_members, put}
 use Rattle.serde_json.specs.{Find.as_object, Find.as_u64, Read.of_json, Read.of_items, Read.of_members, Read.converted, Read.number_of}
 use Rattle.mml_plain.specs.declared.member_value.MemberValue.{MemberValue, TheVariants.Null, TheVariants.Truth, TheVariants.Number, TheVariants.Text, TheVariants.Other}
@@ -28,21 +28,9 @@ pub items_next : (depth n : ℕ) (ts : List Token) → length ts ≤ n → items
 unfolding items
 items_next depth n ts h = grind (arith, value_is)
 
-pub items_over : (depth n : ℕ) (ts rest : List Token) → length ts ≤ n → after_end_array ts ≡ Some rest → items_at depth n ts ≡ Some (no_items, rest)
-items_over depth n ts rest h end = items_next depth n ts h ∙ ap (items_turn depth (n - 1) ts) end
-
-pub items_stuck : (depth n : ℕ) (ts : List Token) → length ts ≤ n → after_end_array ts ≡ None → value_at depth ts ≡ None → items_at depth n ts ≡ None
-items_stuck depth n ts h going none = grind (arith, items_next)
-
 pub items_more : (depth n : ℕ) (ts rest : List Token) (d : Data) → length ts ≤ n → after_end_array ts ≡ None → value_at depth ts ≡ Some (d, rest)
-    → items_at depth n ts ≡ parse_map (item d) (items_at depth (n - 1) rest)
-items_more depth n ts rest d h going some = grind (arith, items_next)
-
-pub unmapped : (o : Option (Items × List Token)) → o ≡ parse_map (λ ds. ds) o
-unmapped o = grind arith
-
-pub mapped_twice : (f g : Items → Items) (o : Option (Items × List Token)) → parse_map f (parse_map g o) ≡ parse_map (λ ds. f (g ds)) o
-mapped_twice f g o = grind arith
+    → left (items_at depth n ts) ≡ left (items_at depth (n - 1) rest)
+items_more depth n ts rest d h going some = grind (arith, items_next, left-parse_map)
 
 -- ---- objects
 
@@ -70,18 +58,9 @@ pub members_next : (depth : ℕ) (found : Members) (n : ℕ) (ts : List Token) �
 unfolding members
 members_next depth found n ts h = grind (arith, members_suc)
 
-pub members_over : (depth : ℕ) (found : Members) (n : ℕ) (ts rest : List Token) → length ts ≤ n → read_key ts ≡ Some (None, rest) → members_at depth found n ts ≡ Some (found, rest)
-members_over depth found n ts rest h end = members_next depth found n ts h ∙ ap (members_turn depth found (n - 1)) end
-
-pub members_no_key : (depth : ℕ) (found : Members) (n : ℕ) (ts : List Token) → length ts ≤ n → read_key ts ≡ None → members_at depth found n ts ≡ None
-members_no_key depth found n ts h none = members_next depth found n ts h ∙ ap (members_turn depth found (n - 1)) none
-
-module _ (depth : ℕ) (found : Members) (n : ℕ) (ts s : List Token) (k : List ℕ) (h : length ts ≤ n) (named : read_key ts ≡ Some (Some k, s)) where
-  pub members_stuck : value_at depth s ≡ None → members_at depth found n ts ≡ None
-  members_stuck none = grind (arith, members_next)
-
-  pub members_more : (rest : List Token) (d : Data) → value_at depth s ≡ Some (d, rest) → members_at depth found n ts ≡ members_at depth (put k d found) (n - 1) rest
-  members_more rest d some = grind (arith, members_next)
+pub members_more : (depth : ℕ) (found : Members) (n : ℕ) (ts s : List Token) (k : List ℕ) → length ts ≤ n → read_key ts ≡ Some (Some k, s)
+    → (rest : List Token) (d : Data) → value_at depth s ≡ Some (d, rest) → members_at depth found n ts ≡ members_at depth (put k d found) (n - 1) rest
+members_more depth found n ts s k h named rest d some = grind (arith, members_next)
 
 -- ---- one value
 
@@ -89,20 +68,18 @@ module _ (depth : ℕ) (found : Members) (n : ℕ) (ts s : List Token) (k : List
 abbrev pub ReadAs : ℕ → List Token → MemberValue → List Token → Type 0
 ReadAs depth old v new = (d : Data) × (value_at depth old ≡ Some (d, new)) × Shows v d
 
-pub read_null : (depth : ℕ) (ts : List Token) → ReadAs depth (Token.null ∷ ts) Null ts
-read_null depth ts = (null, ap (converted of_json) (value_is depth (Token.null ∷ ts)), record { text = refl; number = refl; truth = refl; register = refl })
+pub read_null : (depth : ℕ) (old new : List Token) (t : Token) → old ≡ t ∷ new → t ≡ Token.null → ReadAs depth old Null new
+read_null depth old new t first is = (null, grind (arith, value_is), record { text = refl; number = refl; truth = refl; register = refl })
 
-pub read_truth : (depth : ℕ) (ts : List Token) (b : Bool) → ReadAs depth (Token.boolean b ∷ ts) (Truth b) ts
-read_truth depth ts b =
-    (boolean b, ap (converted of_json) (value_is depth (Token.boolean b ∷ ts)), record { text = refl; number = refl; truth = refl; register = refl })
+pub read_truth : (depth : ℕ) (old new : List Token) (t : Token) (b : Bool) → old ≡ t ∷ new → t ≡ Token.boolean b → ReadAs depth old (Truth b) new
+read_truth depth old new t b first is = (boolean b, grind (arith, value_is), record { text = refl; number = refl; truth = refl; register = refl })
 
-pub read_text : (depth : ℕ) (ts : List Token) (s : Bor (List ℕ)) → ReadAs depth (Token.string s.now ∷ ts) (Text s) ts
-read_text depth ts s =
-    (string s.now, ap (converted of_json) (value_is depth (Token.string s.now ∷ ts)), record { text = refl; number = refl; truth = refl; register = refl })
+pub read_text : (depth : ℕ) (old new : List Token) (t : Token) (s : Bor (List ℕ)) → old ≡ t ∷ new → t ≡ Token.string s.now → ReadAs depth old (Text s) new
+read_text depth old new t s first is = (string s.now, grind (arith, value_is), record { text = refl; number = refl; truth = refl; register = refl })
 
-pub read_number : (depth : ℕ) (ts : List Token) (s : List ℕ) (v : MemberValue) (found : Option ℕ) → Some found ≡ option_map as_u64 (number_of s)
-    → ((n : Num) → as_u64 n ≡ found → Shows v (number n)) → ReadAs depth (Token.number s ∷ ts) v ts
-read_number depth ts s v found e shows = grind (arith, value_is)
+pub read_number : (depth : ℕ) (old new : List Token) (t : Token) (s : List ℕ) (v : MemberValue) (found : Option ℕ) → old ≡ t ∷ new → t ≡ Token.number s
+    → Some found ≡ option_map as_u64 (number_of s) → ((n : Num) → as_u64 n ≡ found → Shows v (number n)) → ReadAs depth old v new
+read_number depth old new t s v found first is e shows = grind (arith, value_is)
 
 pub no_number_read : (depth : ℕ) (ts : List Token) (s : List ℕ) → None ≡ option_map as_u64 (number_of s) → value_at depth (Token.number s ∷ ts) ≡ None
 no_number_read depth ts s e = grind (arith, value_is)
@@ -124,14 +101,6 @@ value_array depth ts h = ap (converted of_json) (value-begin_array depth ts h) �
 
 pub value_object : (depth : ℕ) (ts : List Token) → 0 < depth → value_at depth (Token.begin_object ∷ ts) ≡ parse_map object (members_at (depth - 1) no_members (length ts) ts)
 value_object depth ts h = ap (converted of_json) (value-begin_object depth ts h) ∙ object_is (members (value (depth - 1)) (length ts) ts)
-
-pub too_deep_array : (ts : List Token) → value_at 0 (Token.begin_array ∷ ts) ≡ None
-unfolding value
-too_deep_array ts = refl
-
-pub too_deep_object : (ts : List Token) → value_at 0 (Token.begin_object ∷ ts) ≡ None
-unfolding value
-too_deep_object ts = refl
 
 pub read_array : (depth : ℕ) (ts rest : List Token) (ds : Items) → 0 < depth → items_at (depth - 1) (length ts) ts ≡ Some (ds, rest) → ReadAs depth (Token.begin_array ∷ ts) Other rest
 read_array depth ts rest ds h e = (array ds, value_array depth ts h ∙ ap (parse_map array) e, record { text = refl; number = refl; truth = refl; register = refl })

@@ -1,6 +1,6 @@
 use Rattle.std.proofs.Common.{◌≡◌, ℕ, ◌+◌, ◌*◌, ◌≤◌, length}
-use Rattle.json.specs.Json.{parse_map}
-use Rattle.serde_json.specs.Data.{Items, Members, no_members}
+use Rattle.json.proofs.Grammar.{left}
+use Rattle.serde_json.specs.Data.{Members, no_members}
 use Rattle.mml_plain.specs.Reading.{items_at, members_at}
 use Rattle.mml_plain.proofs.reading.+nested.Given as goal
 
@@ -14,8 +14,8 @@ abbrev pub decreases-pass_members : goal.decreases-pass_members
 decreases-pass_members l = 2 * l.depth + 1
 
 abbrev pub invariant-pass_items-items : goal.invariant-pass_items-items
-invariant-pass_items-items l = (n : ℕ) × (passed : Items → Items) × (length l.reader ≤ n)
-    × (items_at l.depth (length l.initial.reader) l.initial.reader ≡ parse_map passed (items_at l.depth n l.reader)) × (length l.reader ≤ length l.initial.reader)
+invariant-pass_items-items l = (n : ℕ) × (length l.reader ≤ n)
+    × (left (items_at l.depth (length l.initial.reader) l.initial.reader) ≡ left (items_at l.depth n l.reader)) × (length l.reader ≤ length l.initial.reader)
 
 abbrev pub decreases-pass_items-items : goal.decreases-pass_items-items
 decreases-pass_items-items l = length l.reader
