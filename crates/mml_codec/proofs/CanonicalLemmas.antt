@@ -3,7 +3,7 @@ use Rattle.std.proofs.{lemmas.Bool.Decides.nat_tests, Common.arith}
 use Rattle.std.{proofs.Common.◌≡◌, proofs.Common.◌≢◌, proofs.Common.Some, proofs.Common.Ok, proofs.Common.refl, proofs.Common.◌∙◌, specs.List.All}
 use Rattle.mml_codec.specs.{declared.request.Request.Request, Fields.object_of, Canonical.canonical, Canonical.IsWritable, Lines.request_in}
 use Rattle.mml_codec.specs.Requests.{fields_of, request, by_word, hello_of, move_of, asked_at, fault_of}
-use Rattle.mml_codec.proofs.{CompactTextLemmas.IsUtf8-compact_text, OneLineLemmas.compact_text_line, LinesLemmas.value_in-some, LinesLemmas.request_in-some}
+use Rattle.mml_codec.proofs.{CompactTextLemmas.text_line, CompactTextLemmas.compact_text_line, LinesLemmas.value_in-some, LinesLemmas.request_in-some}
 use Rattle.mml_codec.proofs.FieldsLemmas.{IsObject, flat_object_read, read-object_of}
 
 -- the fields of each request are those of an object: ASCII keys in rising byte order, and ASCII words
@@ -25,6 +25,6 @@ pub request_in-canonical : (r : Request) → IsWritable r → request_in (canoni
 unfolding canonical
 request_in-canonical r h =
     let is = IsObject-fields_of r in
-    let utf8 = IsUtf8-compact_text (object_of (fields_of r)) (flat_object_read (fields_of r) is h).text in
+    let utf8 = (text_line (object_of (fields_of r)) (flat_object_read (fields_of r) is h).text).utf8 in
     request_in-some _ (object_of (fields_of r)) (value_in-some _ (object_of (fields_of r)) utf8 (read-object_of (fields_of r) is h))
     ∙ rw (request-fields_of r) refl

@@ -1,7 +1,6 @@
 pub mod LinesLemmas
 pub mod RequestsLemmas
 pub mod CompactTextLemmas
-pub mod OneLineLemmas
 pub mod ReadBackLemmas
 pub mod FieldsLemmas
 pub mod CanonicalLemmas

@@ -39,21 +39,14 @@ word_read n s h = string_read n s (IsUtf8-are_ascii s h)
 
 -- ---- lists
 
-items_text : (n : ℕ) (ds : List Data) → AllByRecursion (IsReadable n) ds → ItemsHaveText (items_with ds)
-items_text n [] h = tt
-items_text n (d ∷ ds) h = (h.0.text, items_text n ds h.1)
-
-items_back : (n : ℕ) (ds : List Data) → AllByRecursion (IsReadable n) ds → of_items (items_outline (items_with ds)) ≡ Some (items_with ds)
-items_back n [] h = refl
-items_back n (d ∷ ds) h = rw (h.0.back, items_back n ds h.1) refl
-
-items_shallow : (n : ℕ) (ds : List Data) → AllByRecursion (IsReadable n) ds → tree.items_depth (items_outline (items_with ds)) ≤ n
-items_shallow n [] h = omega arith
-items_shallow n (d ∷ ds) h = max-le h.0.shallow (items_shallow n ds h.1)
+items_back : (n : ℕ) (ds : List Data) → AllByRecursion (IsReadable n) ds
+    → ItemsHaveText (items_with ds) × (of_items (items_outline (items_with ds)) ≡ Some (items_with ds)) × (tree.items_depth (items_outline (items_with ds)) ≤ n)
+items_back n [] h = (tt, refl, omega arith)
+items_back n (d ∷ ds) h = let (text, back, shallow) = items_back n ds h.1 in ((h.0.text, text), rw (h.0.back, back) refl, max-le h.0.shallow shallow)
 
 -- if the items of an array are read back and nest at most n deep, the array is read back and nests at most n + 1 deep
 pub items_read : (n : ℕ) (ds : List Data) → AllByRecursion (IsReadable n) ds → IsReadable (suc n) (array (items_with ds))
-items_read n ds h = grind (arith, nat_tests, items_text, items_back, items_shallow)
+items_read n ds h = grind (arith, nat_tests, items_back n ds h)
 
 each_read : {A : Type 0} (n : ℕ) (P : A → Type 0) (f : A → Data) → ((x : A) → P x → IsReadable n (f x)) → (xs : List A) → All P xs
     → AllByRecursion (IsReadable n) (map f xs)
@@ -80,18 +73,14 @@ has_ascii_keys (m ∷ ms) = are_ascii m.0 && has_ascii_keys ms
 abbrev pub AreReadable : ℕ → List (List ℕ × Data) → Type 0
 AreReadable n ms = AllByRecursion (λ m. IsReadable n m.1) ms
 
-members_text : (n : ℕ) (ms : List (List ℕ × Data)) → has_ascii_keys ms ≡ true → AreReadable n ms → MembersHaveText (members_with ms)
-members_text n [] keys h = tt
-members_text n (m ∷ ms) keys h = let parts = and_parts _ _ keys in (IsUtf8-are_ascii m.0 parts.0, (h.0.text, members_text n ms parts.1 h.1))
-
-members_back : (n : ℕ) (ms : List (List ℕ × Data)) (found : Members) → AreReadable n ms
-    → of_members (members_outline (members_with ms)) found ≡ Some (put_in_turn ms found)
-members_back n [] found h = refl
-members_back n (m ∷ ms) found h = rw h.0.back (members_back n ms (put m.0 m.1 found) h.1)
-
-members_shallow : (n : ℕ) (ms : List (List ℕ × Data)) → AreReadable n ms → tree.members_depth (members_outline (members_with ms)) ≤ n
-members_shallow n [] h = omega arith
-members_shallow n (m ∷ ms) h = max-le h.0.shallow (members_shallow n ms h.1)
+members_back : (n : ℕ) (ms : List (List ℕ × Data)) (found : Members) → has_ascii_keys ms ≡ true → AreReadable n ms
+    → MembersHaveText (members_with ms) × (of_members (members_outline (members_with ms)) found ≡ Some (put_in_turn ms found))
+    × (tree.members_depth (members_outline (members_with ms)) ≤ n)
+members_back n [] found keys h = (tt, refl, omega arith)
+members_back n (m ∷ ms) found keys h =
+    let (ascii, others) = and_parts _ _ keys in
+    let (text, back, shallow) = members_back n ms (put m.0 m.1 found) others h.1 in
+    ((IsUtf8-are_ascii m.0 ascii, (h.0.text, text)), rw h.0.back back, max-le h.0.shallow shallow)
 
 -- the keys are in rising byte order, each occurs once, and all are ASCII
 pub record IsKeyed (ms : List (List ℕ × Data)) : Type 0 where
@@ -101,7 +90,7 @@ pub record IsKeyed (ms : List (List ℕ × Data)) : Type 0 where
 -- if the keys of an object rise, and its values are read back and nest at most n deep, it is read back and nests at
 -- most n + 1 deep
 pub object_read : (n : ℕ) (ms : List (List ℕ × Data)) → IsKeyed ms → AreReadable n ms → IsReadable (suc n) (object_with ms)
-object_read n ms keyed h = grind (arith, nat_tests, members_text, members_back, members_shallow)
+object_read n ms keyed h = grind (arith, nat_tests, members_back n ms no_members keyed.ascii h)
 
 -- the text of a value that is read back is read as this value, if it nests at most `max_depth` deep
 pub read_value : (n : ℕ) (d : Data) → n ≤ max_depth → IsReadable n d → read (compact_text d) ≡ Some d

@@ -62,15 +62,9 @@ items_are : {A : Type 0} (g : A → List ℕ) (f : A → Data) → ((x : A) → 
 items_are g f same [] = refl
 items_are g f same (x ∷ xs) = grind (arith, nat_tests, append_assoc, later_items_are)
 
-items_then : {A : Type 0} (g : A → List ℕ) (f : A → Data) → ((x : A) → g x ≡ compact_text (f x)) → (xs : List A) (rest more : List ℕ) → rest ≡ more
-    → separated (map g xs) ++ 93 ∷ rest ≡ items_text false (items_with (map f xs)) ++ more
-items_then g f same xs rest more e =
-    sym (append_assoc (separated (map g xs)) (93 ∷ []) rest) ∙ ap (λ t. t ++ rest) (items_are g f same xs)
-    ∙ ap (λ t. items_text false (items_with (map f xs)) ++ t) e
-
 list_is : {A : Type 0} (g : A → List ℕ) (f : A → Data) → ((x : A) → g x ≡ compact_text (f x)) → (xs : List A) (rest : List ℕ)
     → list_then (map g xs) rest ≡ 91 ∷ (items_text false (items_with (map f xs)) ++ rest)
-list_is g f same xs rest = ap (λ t. 91 ∷ t) (items_then g f same xs rest rest refl)
+list_is g f same xs rest = grind (arith, nat_tests, append_assoc, items_are g f same xs)
 
 -- ---- a fact, and all fields
 
@@ -95,7 +89,6 @@ pub fields_are : (ids : List ℕ) (later : Bool) (fs : Fields) → ArePlain fs
 fields_are ids later [] h = refl
 fields_are ids later (f ∷ fs) h =
     let rest = fields_after ids (codes ",") fs in
-    let told = fact_then ids f.1 rest in
-    ap (λ t. comma_if later ++ t) (ap (λ t. codes "\"" ++ (f.0 ++ (codes "\":" ++ t))) (fact_is ids f.1 rest h.0.1
-    ∙ ap (λ t. compact_text (fact_value ids f.1) ++ t) (fields_are ids true fs h.1))
-    ∙ quoted_is f.0 (58 ∷ (compact_text (fact_value ids f.1) ++ members_text true (members_with (keys_of ids fs)))) h.0.0)
+    let value = compact_text (fact_value ids f.1) in
+    let others = members_text true (members_with (keys_of ids fs)) in
+    grind (arith, nat_tests, append_assoc, fact_is ids f.1 rest h.0.1, fields_are ids true fs h.1, quoted_is f.0 (58 ∷ (value ++ others)) h.0.0)

@@ -1,7 +1,6 @@
 -- The text of a reply is read as the reply's JSON value, and is one line. A fact is the value of a key in a reply.
 use Rattle.std.proofs.lemmas.Bool.{Decides.nat_tests, and_parts, and_from}
-use Rattle.std.proofs.Common.{◌≡◌, ◌≢◌, ℕ, ◌<◌, List, [], ◌∷◌, Bool, true, false, ◌&&◌, Option, None, Some, IfSome, All, codes, length, nat_lt, refl, ap, ◌∙◌, arith, ltb-true, lit≤, slice_index}
-use Rattle.std.proofs.Common.{zero-add}
+use Rattle.std.proofs.Common.{◌≡◌, ◌≢◌, ℕ, ◌<◌, List, [], ◌∷◌, Bool, true, false, ◌&&◌, Option, None, Some, IfSome, All, length, nat_lt, refl, ap, ◌∙◌, arith, ltb-true, lit≤, slice_index, zero-add}
 use Rattle.std.specs.{List.AllByRecursion, List.range_with_len, Ordering.nat_cmp, Ordering.is_lt, Cmp.Lexicographic.slice_cmp, FinSet.FinSet}
 use Rattle.std.proofs.lemmas.List.{Elements.All-filter, Elements.All-from_get_or, FromFn.length-range_with_len, FromFn.get_or-range_with_len}
 use Rattle.serde_json.specs.{Read.read, Written.compact_text}
@@ -12,30 +11,22 @@ use Rattle.mml_rules.specs.declared.{regs.Regs.Regs, rule.Kind.Kind}
 use Rattle.mml_lab.specs.{Rosters.RosterValue, Rosters.IsRoster}
 use Rattle.mml_lab.proofs.FormLemmas.{name-means}
 use Rattle.mml_policy.specs.About.{IsNear}
-use Rattle.mml_board.specs.{declared.denial.Denial.Denial, Denials.clause_of, Denials.text_of}
+use Rattle.mml_board.specs.{declared.denial.Denial.Denial, Denials.clause_of, Denials.text_of, Vocabulary.rule_name}
 use Rattle.mml_stable.specs.{Reports.IsPairOf, Reports.IsOpenLinkOf, declared.open_link.OpenLink.OpenLink}
 use Rattle.mml_codec.specs.{declared.reply.Reply.Reply, Objects.members_with, Replies.fields_of, Replies.text, Replies.IsAbout}
-use Rattle.mml_codec.specs.Facts.{Fact, Fields, members, object_text, node_value, pointer_value, kind_value, kind_or_null_value, near_keys, near_value, pair_value, privileged_value, open_link_value}
-use Rattle.mml_codec.specs.Facts.{fact_value, keys_of, FitsCount, HaveFittingCounts}
+use Rattle.mml_codec.specs.Facts.{Fact, Fields, members, object_text, node_value, pointer_value, kind_value, near_keys, near_value, pair_value, privileged_value, open_link_value, fact_value, keys_of}
+use Rattle.mml_codec.specs.Facts.{FitsCount, HaveFittingCounts}
 use Rattle.mml_codec.specs.ReplyValues.{reply_value, AreWritableCounts, has_rising_keys, members_rise, comes_first}
-use Rattle.mml_codec.proofs.{OneLineLemmas.compact_text_line, ReplyTextLemmas.name_bare, ReplyTextLemmas.ArePlain, ReplyTextLemmas.fields_are}
+use Rattle.mml_codec.proofs.{CompactTextLemmas.compact_text_line, ReplyTextLemmas.name_bare, ReplyTextLemmas.ArePlain, ReplyTextLemmas.fields_are}
 use Rattle.mml_codec.proofs.ReadBackLemmas.{IsReadable, AreReadable, IsKeyed, null_read, truth_read, count_read, word_read, items_read, array_read, object_read, read_value, items_rise}
 use Rattle.std.specs.FinSet as set
-use Rattle.mml_rules.specs.declared.rule.Kind.TheVariants as kind
 use Rattle.mml_board.specs.Denials as denials
 use Rattle.mml_codec.specs.Facts as fact
 
 -- ---- each kind of fact
 
 kind_read : (n : ℕ) (k : Kind) → IsReadable n (kind_value k)
-kind_read n kind.Update = word_read n (codes "update") refl
-kind_read n kind.Marriage = word_read n (codes "marriage") refl
-kind_read n kind.Seduction = word_read n (codes "seduction") refl
-kind_read n kind.Abandonment = word_read n (codes "abandonment") refl
-
-kind_or_null_read : (n : ℕ) (k : Option Kind) → IsReadable n (kind_or_null_value k)
-kind_or_null_read n None = null_read n
-kind_or_null_read n (Some k) = kind_read n k
+kind_read n k = word_read n (rule_name k) (grind (arith, nat_tests))
 
 -- the numbers of the range from 0 to n - 1 are below n
 below : (n : ℕ) → All (λ i. i < n) (range_with_len 0 n)
@@ -79,10 +70,9 @@ module _ (ids : List ℕ) (table : IsTable ids) where
   privileged_read n h = items_read 0 (node_value ids n.0 ∷ kind_value n.1 ∷ []) (node_read 0 n.0 h, (kind_read 0 n.1, tt))
 
   open_link_read : (l : OpenLink) → IsOpenLinkOf (length ids) l → IsReadable 1 (open_link_value ids l)
-  open_link_read l h = items_read 0 (node_value ids l.a ∷ node_value ids l.b ∷ node_value ids l.node ∷ kind_value l.kind ∷ []) (
-    node_read 0 l.a h.0,
-    (node_read 0 l.b h.1, (node_read 0 l.node h.2, (kind_read 0 l.kind, tt))),
-  )
+  open_link_read l h =
+      items_read 0 (node_value ids l.a ∷ node_value ids l.b ∷ node_value ids l.node ∷ kind_value l.kind ∷ [])
+      (node_read 0 l.a h.0, (node_read 0 l.b h.1, (node_read 0 l.node h.2, (kind_read 0 l.kind, tt))))
 
   fact_read : (f : Fact) → IsFactOf ids f → FitsCount f → IsReadable 2 (fact_value ids f)
   fact_read (fact.count n) h fits = count_read 2 n fits
@@ -92,7 +82,8 @@ module _ (ids : List ℕ) (table : IsTable ids) where
   fact_read (fact.node i) h fits = node_read 2 i h
   fact_read (fact.pointer p) h fits = pointer_read 2 p h
   fact_read (fact.rule k) h fits = kind_read 2 k
-  fact_read (fact.rule_or_null k) h fits = kind_or_null_read 2 k
+  fact_read (fact.rule_or_null None) h fits = null_read 2
+  fact_read (fact.rule_or_null (Some k)) h fits = kind_read 2 k
   fact_read (fact.moved s) h fits = array_read 1 (λ i. i < length ids) (node_value ids) (node_read 1) (members (length ids) s) (members_below (length ids) s)
   fact_read (fact.nodes is) h fits = array_read 1 (λ i. i < length ids) (node_value ids) (node_read 1) is h
   fact_read (fact.near ns) h fits = array_read 1 (IsNear ids) (near_value ids) near_read ns h
