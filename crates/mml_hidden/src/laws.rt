@@ -43,6 +43,7 @@ ghost use Rattle.mml_hidden.specs.Coalitions.{AlikeFor, StatesAlikeFor, StayAlik
 
 /// Take two worlds that are alike for a student: they agree in all that she may see. Each command of hers has the same
 /// reply in both, with the same bytes. The worlds after the command are alike again.
+#[tactic(auto, using(crate::proofs::SightLemmas::same_reply_to, mml_policy::proofs::AlikeLemmas::alike_afterwards, std::proofs::lemmas::Bool::Decides::nat_tests))]
 pub fn hidden_values_change_no_reply_line()
     ensures reply { (ids : List ℕ) (r : RosterValue) (limit : ℕ) (is_halted : Bool) (w v : World)
         (s : ℕ) (c : Command) → IsWorldOf ids w → IsWorldOf ids v → Alike r s w v →
@@ -62,6 +63,7 @@ pub fn hidden_values_change_no_reply_line()
 /// states are alike for a student, and that she or nobody is known on a connection. A line on this connection is
 /// answered in both, and the same mishap (memory that ran out or a failed write), or none, befalls both turns. Then the
 /// line gets the same reply line in both, and the states afterwards are alike again.
+#[tactic(auto, using(crate::proofs::TwinsLemmas::twin_turn, std::proofs::lemmas::Bool::Decides::nat_tests))]
 pub fn hidden_values_change_no_turn()
     ensures line { (lab other : LabValue) (s : ℕ) (st su : State) (mishap : Mishap) (k : ℕ)
         (line : List ℕ) → AreTwins lab other → StatesAlike lab s st su →
@@ -104,6 +106,7 @@ pub fn turns_that_keep_worlds_alike_grant_alike()
 /// student, and that each line of somebody else keeps the worlds alike for her. Then the same is written to each
 /// connection as long as she or nobody is known on it. If nobody else is ever known on a connection, all of its output
 /// is the same. The states at the end are alike.
+#[tactic(auto, using(crate::proofs::ScriptedLemmas::same_script, crate::proofs::ScriptedLemmas::same_on_connection, std::proofs::lemmas::Bool::Decides::nat_tests))]
 pub fn hidden_values_change_no_script()
     ensures written { (lab other : LabValue) (s : ℕ) (st su : State) (lines : List RequestLine) →
         AreTwins lab other → StatesAlike lab s st su → StayAlike lab other s st su lines →
@@ -125,6 +128,7 @@ pub fn hidden_values_change_no_script()
 /// lines in both runs. Each line of somebody else must keep the worlds alike for the student, and leave both journals
 /// halted or neither. Take the connections for which `some` is true. If nobody else is ever known on them, all of their
 /// output is the same. The states at the end are alike.
+#[tactic(auto, using(crate::proofs::ScriptedLemmas::same_with, crate::proofs::ScriptedLemmas::same_transcripts_with, std::proofs::lemmas::Bool::Decides::nat_tests))]
 pub fn hidden_values_change_no_script_with_mishaps()
     ensures connections { (lab other : LabValue) (s : ℕ) (st su : State) (some : ℕ → Bool)
         (bs : List BefallenLine) → AreTwins lab other → StatesAlike lab s st su →
@@ -141,6 +145,7 @@ pub fn hidden_values_change_no_script_with_mishaps()
 
 /// Each run of a hall (the engine that answers the lines of numbered connections) consists of one turn for each line,
 /// and each turn has a mishap. The mishap `nothing` means that all went well.
+#[tactic(auto, using(crate::proofs::ScriptedLemmas::run_befalls, std::proofs::lemmas::Bool::Decides::nat_tests))]
 pub fn something_befell_each_line()
     ensures { (lab : LabValue) (st : State) (lines : List RequestLine) (rs : List Reply)
         (end : State) → Run lab st lines rs end → Befalls lab st lines rs end }
@@ -150,6 +155,7 @@ pub fn something_befell_each_line()
 /// and registers at the beginning. Suppose also that no mishap happens, and that the states at first are alike for a
 /// student. If nobody else is known at first, and each valid hello in the script is hers, all replies are the same, and
 /// so are all bytes. So a student who is alone can't distinguish the two labs.
+#[tactic(auto, using(crate::proofs::ScriptedLemmas::same_replies, std::proofs::lemmas::Bool::Decides::nat_tests))]
 pub fn one_who_is_alone_can_not_tell()
     ensures replies { (lab other : LabValue) (s : ℕ) (st su : State) (lines : List RequestLine) →
         AreTwins lab other → StatesAlike lab s st su → OnlySheIsKnown s st →
@@ -166,6 +172,7 @@ pub fn one_who_is_alone_can_not_tell()
 /// Two labs begin alike for a student if they have the same participants, and their first worlds agree in all that she
 /// may see. Then the first states of their runs are alike for her. In the first state of a run nobody is known on any
 /// connection.
+#[tactic(auto, using(crate::proofs::ScriptedLemmas::openings_alike, crate::proofs::ScriptedLemmas::opening_hers, std::proofs::lemmas::Bool::Decides::nat_tests))]
 pub fn runs_begin_alike()
     ensures states { (lab other : LabValue) (s : ℕ) → BeginAlike lab other s →
         StatesAlike lab s (opening lab) (opening other) }
@@ -174,6 +181,7 @@ pub fn runs_begin_alike()
 
 /// A run in which no reply is the refusal for memory or for the journal has the replies and the end of the run of plain
 /// turns. No mishap happens in plain turns.
+#[tactic(auto, using(crate::proofs::ScriptedLemmas::plain_run, std::proofs::lemmas::Bool::Decides::nat_tests))]
 pub fn unhindered_runs_are_plain()
     ensures { (lab : LabValue) (st : State) (lines : List RequestLine) (rs : List Reply)
         (end : State) → Run lab st lines rs end → AreUnhindered rs →
@@ -183,6 +191,7 @@ pub fn unhindered_runs_are_plain()
 /// If an event happens in only one of two worlds that are alike for a student, the worlds aren't alike afterwards: the
 /// numbers of their events differ. If an event happens in each, but only one of the two makes a configuration, the
 /// numbers of their configurations differ.
+#[tactic(auto, using(mml_board::proofs::EventsLemmas::numbers, std::proofs::lemmas::Bool::Decides::nat_tests))]
 pub fn events_are_told_by_place_and_number()
     ensures first { (r : RosterValue) (s : ℕ) (w v : World) (e : Event) → Alike r s w v →
         ¬ Alike r s (after w e) v }
@@ -195,6 +204,7 @@ pub fn events_are_told_by_place_and_number()
 /// If one event happens in two worlds that are alike for a student, they stay alike exactly if the event shows her the
 /// same in both. Only a link to a node of hers and a close can show her different things. A close shows her the same if
 /// the same moves are chosen for the neighbours of her nodes, and their rules read the same values.
+#[tactic(auto, using(crate::proofs::SightLemmas::event_alike, mml_rules::proofs::AroundLemmas::same_effect, std::proofs::lemmas::Bool::Decides::nat_tests))]
 pub fn one_event_keeps_worlds_alike()
     ensures event { (ids : List ℕ) (r : RosterValue) (s : ℕ) (w v : World) (e : Event) →
         IsWorldOf ids w → IsWorldOf ids v → Alike r s w v → is_possible w e ≡ true →
@@ -208,6 +218,7 @@ pub fn one_event_keeps_worlds_alike()
 /// events make a configuration, or neither does; and neither changes anything that the student may see. As an
 /// exception, the numbers of events and configurations may change, and a new configuration may drop chosen moves. An
 /// event out of the student's sight changes nothing that the student may see, with the same exception.
+#[tactic(auto, using(mml_board::proofs::EventsLemmas::numbers, mml_board::proofs::EventsLemmas::dropped, crate::proofs::SightLemmas::out_of_sight, std::proofs::lemmas::Bool::Decides::nat_tests))]
 pub fn events_out_of_sight_keep_worlds_alike()
     ensures untouched { (r : RosterValue) (s : ℕ) (w v : World) (e f : Event) → Alike r s w v →
         IsUntouched r s w e → IsUntouched r s v f →
@@ -219,6 +230,7 @@ pub fn events_out_of_sight_keep_worlds_alike()
 /// Two networks are alike for a student at the beginning if they differ only in the registers of one node that isn't
 /// visible to her. Two networks are also alike if they differ only in a link between two nodes, neither of which she
 /// owns.
+#[tactic(auto, using(crate::proofs::SightLemmas::of_others, std::proofs::lemmas::Bool::Decides::nat_tests))]
 pub fn labs_may_differ_out_of_sight()
     ensures registers { (n : Network) (r : RosterValue) (s i : ℕ) (regs : Regs) → IsNetwork n →
         ¬ IsVisible r (configuration_of n) (who.Student s) i →
@@ -232,6 +244,7 @@ pub fn labs_may_differ_out_of_sight()
 /// A student can't notice which move, if any, is chosen for a node of others, even if it is linked to a node of hers.
 /// Two worlds that differ in this choice alone are alike for her, and each of her commands has the same reply line in
 /// both.
+#[tactic(auto, using(crate::proofs::SightLemmas::of_others, crate::proofs::SightLemmas::same_reply_to, std::proofs::lemmas::Bool::Decides::nat_tests))]
 pub fn choices_of_others_are_hidden()
     ensures worlds { (r : RosterValue) (s i : ℕ) (w : World) (one other : Option Rule) →
         owns r (who.Student s) i ≡ false →
@@ -246,6 +259,7 @@ pub fn choices_of_others_are_hidden()
 /// A student has a session in each of two twin labs, which differ at most in the links and registers at the beginning.
 /// The same lines get the same replies in both, with the same bytes, if two conditions hold. The events that a reply is
 /// based on must leave worlds that are alike for her. And no reply may be the refusal for memory or for the journal.
+#[tactic(auto, using(crate::proofs::SessionsLemmas::session_both, crate::proofs::SessionsLemmas::session_bytes, std::proofs::lemmas::Bool::Decides::nat_tests))]
 pub fn hidden_values_change_no_session()
     ensures replies { (lab other : LabValue) (s : ℕ) (st su : Standing) (lines : List (List ℕ))
         (rs qs : List Reply) (end fin : Standing) (one : SessionRun lab st lines rs end)
@@ -268,6 +282,7 @@ pub fn hidden_values_change_no_session()
 /// must keep the worlds alike for each member, and leave both journals halted or neither. Take the connections for
 /// which `some` is true. If nobody but members is ever known on them, all of their output is the same. The states at
 /// the end are alike for each member. A coalition has at least one member.
+#[tactic(auto, using(crate::proofs::SightLemmas::same_reply_to, std::proofs::lemmas::Bool::Decides::nat_tests))]
 pub fn coalitions_learn_nothing_hidden()
     ensures reply { (ids : List ℕ) (r : RosterValue) (limit : ℕ) (is_halted : Bool) (w v : World)
         (members : ℕ → Bool) (s : ℕ) (c : Command) → IsWorldOf ids w → IsWorldOf ids v →
@@ -302,6 +317,7 @@ pub fn coalitions_learn_nothing_hidden()
 /// Two networks are alike for each member of a coalition at the beginning if they differ only in the registers of one
 /// node that is visible to none of them. Two networks are also alike if they differ only in a link between two nodes
 /// that none of them owns.
+#[tactic(auto, using(crate::proofs::SightLemmas::of_others, std::proofs::lemmas::Bool::Decides::nat_tests))]
 pub fn labs_may_differ_out_of_a_coalitions_sight()
     ensures registers { (n : Network) (r : RosterValue) (members : ℕ → Bool) (i : ℕ)
         (regs : Regs) → IsNetwork n →
