@@ -1,9 +1,7 @@
 -- The answered lines of a session are a chain of its turns. After the reply to a bye nobody is known. A participant is
 -- known on a connection from a granted hello to a bye.
-use Rattle.std.proofs.lemmas.Bool.Decides.{nat_tests}
-use Rattle.std.proofs.lemmas.Bool.{false≢true}
-use Rattle.std.proofs.Common.{◌≡◌, ℕ, Bool, true, false, ◌||◌, List, [], ◌∷◌, ◌++◌, Option, None, refl, sym, subst, append-nil, arith}
-use Rattle.std.specs.List.{AllByRecursion}
+use Rattle.std.{proofs.lemmas.Bool.Decides.nat_tests, specs.List.AllByRecursion}
+use Rattle.std.proofs.Common.{◌≡◌, ℕ, true, false, List, [], ◌∷◌, ◌++◌, Option, None, refl, sym, append-nil, arith}
 use Rattle.mml_lab.specs.Labs.{LabValue}
 use Rattle.mml_lines.specs.{LinesOf.IsWithinLimit, Runs.Chain}
 use Rattle.mml_lines.proofs.RunsLemmas.{by_steps}
@@ -26,9 +24,6 @@ pub record Says (lab : LabValue) (st : Standing) (said : List Answered) (new : W
   pub stands : end.window ≡ new
   pub forgets : says_bye said ≡ true → end.known ≡ None
 
-or_false : (b : Bool) → (b || false) ≡ b
-or_false b = grind (arith, nat_tests)
-
 module _ (lab : LabValue) (more : List Answered) (new : WindowValue) where
   one_first : (st next : Standing) (a : Answered) → TurnAt lab a st next → is_bye a.reply ≡ false → Says lab next more new → Says lab st (a ∷ more) new
   one_first st next a turn none s = grind (arith, nat_tests)
@@ -45,13 +40,12 @@ module _ (lab : LabValue) (more : List Answered) (new : WindowValue) where
 module _ (lab : LabValue) (old new : WindowValue) where
   talk_says : (t : Talk lab (nobody_known old)) → t.end.window ≡ new → Says lab (nobody_known old) (answers t.lines t.replies) new
   talk_says t is =
-      subst (λ said. Says lab (nobody_known old) said new) (append-nil (answers t.lines t.replies))
-      (run_first lab [] new (nobody_known old) t.end t.lines t.replies t.run t.each t.goes_on
-      (record { end = t.end; turns = refl; stands = is; forgets = λ no. absurd (false≢true no) }))
+      let none : Says lab t.end [] new = record { end = t.end; turns = refl; stands = is; forgets = λ bye. cc } in
+      rw append-nil at (run_first lab [] new (nobody_known old) t.end t.lines t.replies t.run t.each t.goes_on none)
 
   last_says : (t : Talk lab (nobody_known old)) (after : Standing) (last : LineTurn lab t.end after) → after.window ≡ new
       → Says lab (nobody_known old) (answers t.lines t.replies ++ answered last.line last.reply ∷ []) new
-  last_says t after last is = grind (arith, nat_tests, run_first, bye_forgets, or_false)
+  last_says t after last is = grind (arith, nat_tests, run_first, bye_forgets)
 
   ended_says : (end : SessionEnd) (input left wrote wrote' : Option (List ℕ)) (e : Ended end lab old new input left wrote wrote')
       → Says lab (nobody_known old) (answers_in end lab old new input left wrote wrote' e) new

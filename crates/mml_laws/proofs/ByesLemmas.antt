@@ -1,15 +1,13 @@
 -- After the reply to a bye nobody is known on the connection of a session. A participant is known on a connection from a
 -- granted hello to a bye.
-use Rattle.std.proofs.lemmas.{Bool.Decides.nat_tests, Bool.false≢true}
-use Rattle.std.proofs.Common.{◌≡◌, ℕ, true, false, List, Option, None, Result, arith}
+use Rattle.std.proofs.{lemmas.Bool.Decides.nat_tests, lemmas.Bool.false≢true, Common.◌≡◌, Common.ℕ, Common.true, Common.false, Common.List, Common.Option, Common.None, Common.Result, Common.arith}
 use Rattle.mml_lab.specs.{declared.who.Who.Who, Labs.LabValue, Rosters.RosterValue}
-use Rattle.mml_board.specs.{declared.done.Done.Done, World.World}
-use Rattle.mml_policy.specs.{declared.command.Command.Command}
+use Rattle.mml_board.specs.{World.World}
 use Rattle.mml_policy.specs.declared.ruling.Ruling.{Ruling}
-use Rattle.mml_codec.specs.declared.{greeting.Greeting.Greeting, greeting.Greeting.TheVariants.Answered as Immediate, greeting.Greeting.TheVariants.LeftToJudge, request.LineFault.LineFault, request.Request.Request, reply.Reply.Reply}
-use Rattle.mml_codec.specs.{Greetings.greeting, Rulings.reply_of, Rulings.reply_of_done}
+use Rattle.mml_codec.specs.{declared.greeting.Greeting.Greeting, declared.greeting.Greeting.TheVariants.Answered as Immediate, declared.greeting.Greeting.TheVariants.LeftToJudge}
+use Rattle.mml_codec.specs.{declared.request.LineFault.LineFault, declared.request.Request.Request, declared.reply.Reply.Reply, Greetings.greeting, Rulings.reply_of}
 use Rattle.mml_engine.proofs.TurnsLemmas.{by_greeting}
-use Rattle.mml_session.specs.Turns.{Standing, Told, Settles, Asked, Turn, is_bye}
+use Rattle.mml_session.specs.Turns.{Standing, Settles, Asked, Turn, is_bye}
 
 abbrev ForgetsAtBye : Greeting → Type 0
 ForgetsAtBye (Immediate q x) = is_bye q ≡ true → x ≡ None
@@ -18,18 +16,12 @@ ForgetsAtBye (LeftToJudge who c) = Unit {0}
 forgets : (roster : RosterValue) (known : Option Who) (q : Request) → ForgetsAtBye (greeting roster known q)
 forgets roster known q = grind (arith, nat_tests, by_greeting, false≢true)
 
-done_no_bye : (at place : ℕ) (d : Done) → is_bye (reply_of_done at place d) ≡ false
-done_no_bye at place d = grind (arith, nat_tests)
-
 ruled_no_bye : (w : World) (ruled : Ruling) → is_bye (reply_of w ruled) ≡ false
-ruled_no_bye w ruled = grind (arith, nat_tests, done_no_bye)
+ruled_no_bye w ruled = grind (arith, nat_tests)
 
 module _ (lab : LabValue) (st next : Standing) (r : Reply) (is : is_bye r ≡ true) where
-  told_no_bye : (who : Who) (c : Command) → Told lab st.window who c r next.window → ⊥
-  told_no_bye who c t = grind (arith, nat_tests, false≢true, ruled_no_bye)
-
   settles_forgets : (g : Greeting) → ForgetsAtBye g → Settles lab st g r next → next.known ≡ None
-  settles_forgets g f h = grind (arith, nat_tests, told_no_bye)
+  settles_forgets g f h = grind (arith, nat_tests, false≢true, ruled_no_bye)
 
   asked_forgets : (asked : Result Request LineFault) → Asked lab st asked r next → next.known ≡ None
   asked_forgets asked h = grind (arith, nat_tests, false≢true, settles_forgets, forgets)

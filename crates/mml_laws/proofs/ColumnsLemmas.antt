@@ -3,10 +3,9 @@ use Rattle.std.proofs.Common.{ℕ, suc, true, None, List, [], ◌∷◌, ◌++�
 use Rattle.mml_lab.specs.Labs.{LabValue}
 use Rattle.mml_board.specs.declared.event.Event.{Event}
 use Rattle.mml_tally.specs.{declared.ask.Ask.Ask, AskMeaning.AreAsksOf, StudentDenials.AreNamed}
-use Rattle.mml_record.specs.{declared.kept_entry.Entry.Entry, Asks.asks_in, Certified.IsRecordOf}
+use Rattle.mml_record.specs.{declared.kept_entry.Entry.Entry, Asks.asks_in, Certified.IsRecordOf, Certified.first_stage}
 use Rattle.mml_record.proofs.{AsksLemmas.asked_of_rules, AskersLemmas.are_asks_of, NamedAskersLemmas.record_named}
 use Rattle.mml_class.specs.{declared.class_record.ClassRecord.ClassRecord, Classes.AreRecordsOf, Classes.IsClassRecord, Classes.all_asks}
-use Rattle.mml_record.specs.Certified.{first_stage}
 
 named_after : (xs ys : List Ask) → AreNamed xs → AreNamed ys → AreNamed (xs ++ ys)
 named_after [] ys h k = k
@@ -28,12 +27,12 @@ module _ (lab : LabValue) (l : List Event) (texts : ℕ → List ℕ) (Are : Lis
     class_are : (start : List ℕ) (c : ClassRecord) → IsClassRecord lab l true start texts c → Are c.asks.items
     class_are start c is = subst Are (sym (is.asked refl)) (all_are 1 is.entries is.places is.records)
 
-module _ (lab : LabValue) (l : List Event) (texts : ℕ → List ℕ) where
+module _ (lab : LabValue) (l : List Event) (start : List ℕ) (texts : ℕ → List ℕ) where
   -- each denied line of a class is counted under the clause of its denial
-  pub class_named : (start : List ℕ) (c : ClassRecord) → IsClassRecord lab l true start texts c → AreNamed c.asks.items
-  class_named = class_are lab l texts AreNamed tt named_after (record_named lab l)
+  pub class_named : (c : ClassRecord) → IsClassRecord lab l true start texts c → AreNamed c.asks.items
+  class_named = class_are lab l texts AreNamed tt named_after (record_named lab l) start
 
-  pub class_of_students : (start : List ℕ) (c : ClassRecord) → IsClassRecord lab l true start texts c → AreAsksOf (length lab.roster.students) c.asks.items
+  pub class_of_students : (c : ClassRecord) → IsClassRecord lab l true start texts c → AreAsksOf (length lab.roster.students) c.asks.items
   class_of_students =
       class_are lab l texts (AreAsksOf (length lab.roster.students)) tt (asks_after (length lab.roster.students))
-      (λ es own h. are_asks_of lab l None tt es (asks_in lab.roster es) (asked_of_rules lab l None first_stage 0 es own h))
+      (λ es own h. are_asks_of lab l None tt es (asks_in lab.roster es) (asked_of_rules lab l None first_stage 0 es own h)) start

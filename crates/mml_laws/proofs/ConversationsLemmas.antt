@@ -2,44 +2,28 @@
 -- house. A seat serves one connection after another, each for a session, through a window: what these sessions have
 -- seen of the events of the house, and the places of the events that were granted to them. The place of an event is its
 -- number in the list of events, from 1. A house is one run of a lab that threads share.
-use Rattle.std.proofs.lemmas.Bool.Decides.{nat_tests}
+use Rattle.std.{proofs.lemmas.Bool.Decides.nat_tests, proofs.lemmas.List.Elements.All-head, proofs.lemmas.List.Elements.All-tail, specs.List.AllByRecursion}
 use Rattle.std.proofs.Common.{◌≡◌, ◌≤◌, ◌+◌, ℕ, Bool, true, cond, List, [], ◌∷◌, ◌++◌, map, All, Option, None, sym, ap, ◌∙◌, subst, arith, append_assoc, append-nil}
-use Rattle.std.proofs.lemmas.{List.Elements.All-head, List.Elements.All-tail}
-use Rattle.std.specs.List.{AllByRecursion}
 use mathlib.Core.List.{IsPrefix}
 use Rattle.mml_lab.specs.{declared.who.Who.Who, Labs.LabValue}
 use Rattle.mml_board.specs.declared.event.Event.{Event}
 use Rattle.mml_lines.specs.{LinesOf.IsWithinLimit, Runs.Chain}
-use Rattle.mml_codec.specs.{declared.TheConstants.MAX_REQUEST, Canonical.canonical, Greetings.greeting}
+use Rattle.mml_codec.specs.{declared.TheConstants.MAX_REQUEST}
 use Rattle.mml_codec.proofs.CanonicalLemmas.{request_in-canonical, canonical_line}
 use Rattle.mml_window.specs.{Windows.WindowValue, Windows.window, Tallies.times, Tallies.told_of}
 use Rattle.mml_window.proofs.TallyLemmas.{times_append}
-use Rattle.mml_session.specs.{Turns.Standing, Turns.standing, Turns.Turn, Turns.Settles, Turns.entered, Talks.nobody_known}
+use Rattle.mml_session.specs.{Turns.Standing, Turns.standing, Talks.nobody_known}
 use Rattle.mml_laws.specs.Served.{Answered, IsConversation, AreConversations, AreHeard, IsUnhalted, AreWritten}
 use Rattle.mml_laws.specs.OneScript.{bye, says_bye, bye_after, on_one_connection}
-use Rattle.mml_laws.proofs.{AskingLinesLemmas.bye_text, AnswersLemmas.TurnAt, AnswersLemmas.conversation_says}
-use Rattle.mml_laws.proofs.HallStepsLemmas.{HallStep, turn_steps}
+use Rattle.mml_laws.proofs.{AskingLinesLemmas.bye_text, AnswersLemmas.TurnAt, AnswersLemmas.conversation_says, HallStepsLemmas.HallStep, HallStepsLemmas.turn_steps}
 use Rattle.mml_laws.proofs.WeavingLemmas.{placed, Timeline, Together, silent, waits, says_first, nobody, joined}
-use Rattle.mml_codec.specs.declared.reply.Reply.TheVariants as reply
-use Rattle.mml_codec.specs.declared.request.Request.TheVariants as requests
 
 -- the line isn't too long for a request
 abbrev pub Fine : Answered → Type 0
 Fine a = IsWithinLimit MAX_REQUEST a.line
 
--- ---- byes
-
-bye_unhalted : IsUnhalted reply.Bye
-bye_unhalted h = cc
-
-bye_fine : IsWithinLimit MAX_REQUEST (canonical requests.Bye)
-bye_fine = grind (arith, nat_tests, canonical_line, bye_text)
-
-bye_settles : (lab : LabValue) (x : Option Who) (w : WindowValue) → Settles lab (standing x w) (greeting lab.roster x requests.Bye) reply.Bye (standing None w)
-bye_settles lab x w = grind (arith, nat_tests)
-
-bye_turn : (lab : LabValue) (x : Option Who) (w : WindowValue) → Turn lab (standing x w) (canonical requests.Bye) reply.Bye (standing None w)
-bye_turn lab x w = grind (arith, nat_tests, request_in-canonical, bye_settles)
+bye_turn : (lab : LabValue) (x : Option Who) (w : WindowValue) → TurnAt lab bye (standing x w) (standing None w)
+bye_turn lab x w = grind (arith, nat_tests, request_in-canonical, canonical_line, bye_text)
 
 -- ---- the timeline of a seat
 
@@ -51,24 +35,16 @@ module _ (lab : LabValue) (n k : ℕ) (all : List Event) (last : WindowValue) wh
     whole : st.window.places ++ ps ≡ last.places
     timeline : Timeline (HallStep lab n) Fine k st.known st.window.seen all said ps
 
-  -- the answer `a` comes first; `caused` is the event that it caused after the events l, if any
-  before_step : (st next : Standing) (a : Answered) (said : List Answered) (l : List Event) → IsPrefix st.window.seen l → (caused : Option Event)
-      → next.window.seen ≡ entered l caused → next.window.places ≡ st.window.places ++ placed l caused
-      → HallStep lab n l st.known a next.known caused → Fine a → Rest next said → Rest st (a ∷ said)
-  before_step st next a said l begins caused seen places step fine rest =
-      let there : Timeline (HallStep lab n) Fine k next.known (entered l caused) all said rest.ps =
-      subst (λ (x : List Event). Timeline (HallStep lab n) Fine k next.known x all said rest.ps) seen rest.timeline in record {
-        ps = placed l caused ++ rest.ps;
-        whole =
-            sym (append_assoc st.window.places (placed l caused) rest.ps) ∙ ap (λ (x : List ℕ). x ++ rest.ps) (sym places) ∙ rest.whole;
-        timeline =
-            waits (HallStep lab n) Fine k st.known all (a ∷ said) (placed l caused ++ rest.ps) st.window.seen begins.0
-            (subst (λ (x : List Event). Timeline (HallStep lab n) Fine k st.known x all (a ∷ said) (placed l caused ++ rest.ps)) (sym begins.1)
-            (says_first (HallStep lab n) Fine k st.known all said rest.ps l a next.known caused fine step there));
-      }
-
   before_turn : (st next : Standing) (a : Answered) (said : List Answered) → TurnAt lab a st next → IsUnhalted a.reply → Rest next said → Rest st (a ∷ said)
-  before_turn st next a said turn written rest = grind (arith, nat_tests, turn_steps lab n st next a.line a.reply turn.0 written, before_step)
+  before_turn st next a said turn written rest =
+      let t = turn_steps lab n st next a.line a.reply turn.0 written in
+      let there = rw t.seen at rest.timeline in
+      let says = says_first (HallStep lab n) Fine k st.known all said rest.ps t.list a next.known t.caused turn.1 t.step there in
+      record {
+        ps = placed t.list t.caused ++ rest.ps;
+        whole = sym (append_assoc st.window.places (placed t.list t.caused) rest.ps) ∙ ap (λ (x : List ℕ). x ++ rest.ps) (sym t.places) ∙ rest.whole;
+        timeline = waits (HallStep lab n) Fine k st.known all (a ∷ said) (placed t.list t.caused ++ rest.ps) st.window.seen t.begins.0 (rw t.begins.1 says);
+      }
 
   before_turns : (st end : Standing) (turns said : List Answered) → Chain (TurnAt lab) st turns end → AllByRecursion IsUnhalted (map (λ a. a.reply) turns)
       → Rest end said → Rest st (turns ++ said)
@@ -76,16 +52,11 @@ module _ (lab : LabValue) (n k : ℕ) (all : List Event) (last : WindowValue) wh
   before_turns st end (a ∷ turns) said chain written rest =
       before_turn st chain.0 a (turns ++ said) chain.1 written.0 (before_turns chain.0 end turns said chain.2 written.1 rest)
 
-  before_bye : (x : Option Who) (w : WindowValue) (said : List Answered) → Rest (standing None w) said → Rest (standing x w) (bye ∷ said)
-  before_bye x w said rest = before_turn (standing x w) (standing None w) bye said (bye_turn lab x w, bye_fine) bye_unhalted rest
-
-  -- Whoever is known when a session ends, the other lines come after it. `bye` is whether the session had the reply to a
-  -- bye; if it had, nobody is known at its end
-  abbrev Afterwards : Bool → WindowValue → List Answered → Type 0
-  Afterwards bye new said = (x : Option Who) → (bye ≡ true → x ≡ None) → Rest (standing x new) said
-
+  -- Whoever is known when the session ends, the other lines come after it. If it had the reply to a bye, nobody is known
+  -- at its end
   before_conversation : (old new : WindowValue) (one said : List Answered) → IsConversation lab one old new
-      → AllByRecursion IsUnhalted (map (λ a. a.reply) one) → Afterwards (says_bye one) new said → Rest (nobody_known old) (one ++ said)
+      → AllByRecursion IsUnhalted (map (λ a. a.reply) one) → ((x : Option Who) → (says_bye one ≡ true → x ≡ None) → Rest (standing x new) said)
+      → Rest (nobody_known old) (one ++ said)
   before_conversation old new one said c written rest =
       let s = conversation_says lab old new one c in
       before_turns (nobody_known old) s.end one said s.turns written
@@ -94,15 +65,11 @@ module _ (lab : LabValue) (n k : ℕ) (all : List Event) (last : WindowValue) wh
   -- a bye comes first, unless there was one before
   before_next : (bye_said : Bool) (x : Option Who) (w : WindowValue) (said : List Answered) → (bye_said ≡ true → x ≡ None) → Rest (standing None w) said
       → Rest (standing x w) (cond {A = List Answered} bye_said [] (bye ∷ []) ++ said)
-  before_next bye_said x w said h4 rest = grind (arith, nat_tests, nobody, before_bye)
+  before_next bye_said x w said known rest = grind (arith, nat_tests, before_turn (standing x w) (standing None w) bye said (bye_turn lab x w) (λ h. cc) rest)
 
   module _ (d : List Event) (ends : last.seen ++ d ≡ all) where
     silent_at : (x : Option Who) (w : WindowValue) → last ≡ w → Rest (standing x w) []
-    silent_at x w same = subst (λ (v : WindowValue). Rest (standing x v) []) same (record {
-      ps = [];
-      whole = append-nil last.places;
-      timeline = silent (HallStep lab n) Fine k x last.seen d all ends;
-    })
+    silent_at x w same = rw (← same) (record { ps = []; whole = append-nil last.places; timeline = silent (HallStep lab n) Fine k x last.seen d all ends })
 
     seat_timeline : (sessions : List (List Answered)) (old : WindowValue) → AreConversations lab old sessions last → AreWritten sessions
         → Rest (nobody_known old) (on_one_connection sessions)
@@ -121,11 +88,9 @@ module _ (lab : LabValue) (n : ℕ) (begun all d : List Event) (ends : begun ++ 
       → Together (HallStep lab n) Fine None begun all j (map on_one_connection seats) (told_of windows)
   house_timeline j [] [] heard written seen few = nobody (HallStep lab n) Fine None begun all j d ends
   house_timeline j (seat ∷ seats) (w ∷ ws) heard written seen few =
-      let sees : IsPrefix w.seen all = All-head (λ w. IsPrefix w.seen all) w ws seen in
+      let sees = All-head (λ w. IsPrefix w.seen all) w ws seen in
       let one = seat_timeline lab n j all w sees.0 sees.1 seat (window begun []) heard.0 written.0 in
-      let timeline : Timeline (HallStep lab n) Fine j None begun all (on_one_connection seat) w.places =
-      subst (λ (ps : List ℕ). Timeline (HallStep lab n) Fine j None begun all (on_one_connection seat) ps) one.whole one.timeline in
       let both : (p : ℕ) → times p w.places + times p (told_of ws) ≤ 1 = λ p. omega (arith, few p, times_append p w.places (told_of ws)) in
-      joined (HallStep lab n) Fine None begun all j (on_one_connection seat) (map on_one_connection seats) w.places (told_of ws) timeline
+      joined (HallStep lab n) Fine None begun all j (on_one_connection seat) (map on_one_connection seats) w.places (told_of ws) (rw one.whole at one.timeline)
       (house_timeline (j + 1) seats ws heard.1 written.1 (All-tail (λ w. IsPrefix w.seen all) w ws seen) (λ p. omega (arith, both p))) both
   house_timeline j _ _ heard written seen few = absurd heard

@@ -1,5 +1,5 @@
 -- The event that a reply names.
-use Rattle.std.proofs.Common.{◌≡◌, ◌≤◌, ◌+◌, ℕ, Bool, true, false, List, [], ◌∷◌, ◌++◌, length, Option, Some, Ok, refl, sym, ap, ◌∙◌, subst, arith, append_assoc}
+use Rattle.std.proofs.Common.{◌≡◌, ◌≤◌, ◌+◌, ℕ, Bool, true, false, List, [], ◌∷◌, ◌++◌, length, Option, Some, Ok, refl, sym, ap, ◌∙◌, arith, append_assoc}
 use Rattle.std.{specs.List.slice_get, proofs.lemmas.Bool.and_parts, proofs.lemmas.Bool.Decides.nat_tests}
 use mathlib.Core.List.{IsPrefix}
 use Rattle.mml_lab.specs.{declared.who.Who.Who, Labs.LabValue, Labs.IsLab}
@@ -24,8 +24,8 @@ line_at : (lab : LabValue) (is : IsLab lab) (w : World) (before : List Event) (e
 line_at lab is w [] e later on legal few = grind (arith, nat_tests, and_parts (is_legal lab.roster w e) (is_legal_list lab.roster (after w e) later) legal, lines_next)
 line_at lab is w (f ∷ before) e later on legal few =
     let both = and_parts (is_legal lab.roster w f) (is_legal_list lab.roster (after w f) (before ++ e ∷ later)) legal in
-    ap (λ (ls : List (List ℕ)). slice_get ls (length (f ∷ before))) (lines_next lab is w f (before ++ e ∷ later) on both.0 (omega (arith, few)))
-    ∙ line_at lab is (after w f) before e later (reached_next lab w f on both.0) both.1 (omega (arith, few, next_place w f))
+    let first = lines_next lab is w f (before ++ e ∷ later) on both.0 (omega (arith, few)) in
+    rw first (line_at lab is (after w f) before e later (reached_next lab w f on both.0) both.1 (omega (arith, few, next_place w f)))
 
 -- ---- the event that a reply names
 
@@ -38,10 +38,7 @@ module _ (lab : LabValue) (is : IsLab lab) (l before : List Event) (e : Event) (
       let w = world_in lab before in
       let place = lists.place_in lab before in
       let facts = (ruled_granted lab.ids lab.roster lab.events halted w x c e done).0 ruled in
-      let opening = opening_of lab.network in
-      let at =
-      line_at lab is opening before e later (reached_first lab is) (subst (λ (k : List Event). is_legal_in lab k ≡ true) order legal)
-      (omega (arith, few, ap length order)) in
+      let at = line_at lab is (opening_of lab.network) before e later (reached_first lab is) (rw order at legal) (omega (arith, few, ap length order)) in
       let next : (after w e).place ≡ length before + 1 = omega (arith, next_place w e, place) in
       record {
         before = before;
@@ -51,12 +48,8 @@ module _ (lab : LabValue) (is : IsLab lab) (l before : List Event) (e : Event) (
         order = order;
         place = refl;
         ruled = (ruled_granted lab.ids lab.roster lab.events false w x c e done).1 (facts.0, facts.1, refl, facts.3);
-        line =
-            ap (λ (k : List Event). slice_get (lines lab is opening k) (length before)) order ∙ at
-            ∙ ap (λ n. Some (event_line lab.ids lab.roster (n + 1) w.number e)) place;
-        reply =
-            reply ∙ ap (λ n. reply_of_done (after w e).number n done) next
-            ∙ ap (λ (v : World). reply_of_done v.number (length before + 1) done) (sym (lists.world-one_more lab before e));
+        line = rw order (at ∙ ap (λ n. Some (event_line lab.ids lab.roster (n + 1) (world_in lab before).number e)) place);
+        reply = grind (arith, reply, next, lists.world-one_more lab before e);
       }
 
 -- if a list begins with some events and one more event, this event is in the list, and others follow it
@@ -69,10 +62,8 @@ pub names_in : (lab : LabValue) → IsLab lab → (l : List Event) → is_legal_
     → (known : Option Who) (line : List ℕ) (r : Reply) (p : ℕ) (seen : List Event) → NamesLast lab known line r p seen → IsPrefix seen l
     → (x : Who) × (c : Command) × (known ≡ Some x) × (request_in line ≡ Ok (Do c)) × IsToldAt lab l p x c r
 names_in lab is l legal few known line r p seen n begins =
-    let w = world_in lab n.before in
-    let more = longer n.before n.event l (subst (λ (es : List Event). IsPrefix es l) n.last begins) in
-    let place : length n.before + 1 ≡ p = omega (arith, lists.place_in lab n.before, next_place w n.event, n.place) in
-    let told =
-    told_at lab is l n.before n.event more.0 n.done n.who n.command r false more.1 legal few n.ruled
-    (n.reply ∙ ap (λ k. reply_of_done (after w n.event).number k n.done) n.place) in
-    (n.who, n.command, n.by, n.asked, subst (λ k. IsToldAt lab l k n.who n.command r) place told)
+    let more = longer n.before n.event l (rw n.last at begins) in
+    let place : length n.before + 1 ≡ p = omega (arith, lists.place_in lab n.before, next_place (world_in lab n.before) n.event, n.place) in
+    let reply = n.reply ∙ ap (λ k. reply_of_done (after (world_in lab n.before) n.event).number k n.done) n.place in
+    let told = told_at lab is l n.before n.event more.0 n.done n.who n.command r false more.1 legal few n.ruled reply in
+    (n.who, n.command, n.by, n.asked, rw place at told)

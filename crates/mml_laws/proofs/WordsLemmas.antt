@@ -1,18 +1,16 @@
 -- Which JSON is read as which request, what a program finds in the text of a reply, and which replies show registers.
-use Rattle.std.proofs.Common.{◌≡◌, ◌↔◌, ℕ, Bool, false, List, Option, Some, subst, arith}
-use Rattle.std.{specs.List.list_any, proofs.lemmas.Option.same_Some, proofs.lemmas.Bool.false≢true, proofs.lemmas.Bool.Decides.nat_tests}
-use Rattle.serde_json.specs.{Data.Data, Find.get, Read.read}
-use Rattle.mml_ids.specs.Ids.{IsTable}
+use Rattle.std.proofs.Common.{◌≡◌, ◌↔◌, ℕ, Bool, List, Option, Some, subst, arith}
+use Rattle.std.{proofs.lemmas.Option.same_Some, proofs.lemmas.Bool.Decides.nat_tests}
+use Rattle.serde_json.specs.{Data.Data, Find.get}
 use Rattle.mml_rules.specs.declared.rule.Kind.{Kind}
-use Rattle.mml_lab.specs.Rosters.{RosterValue, IsRoster}
+use Rattle.mml_lab.specs.Rosters.{RosterValue}
 use Rattle.mml_board.specs.declared.denial.Denial.{Denial}
 use Rattle.mml_policy.specs.declared.{look.Look.Look}
-use Rattle.mml_codec.specs.{declared.request.Request.Request, declared.reply.Refused.Refused, declared.reply.Reply.Reply, Facts.kind_or_null_value, Facts.pointer_value, Fields.Has, Fields.HasEach}
-use Rattle.mml_codec.specs.{Requests.fields_of, Requests.request, Replies.IsAbout, ReplyValues.reply_value, ReplyValues.AreWritableCounts}
+use Rattle.mml_codec.specs.{declared.request.Request.Request, declared.reply.Reply.Reply, Facts.kind_or_null_value, Facts.pointer_value, Fields.Has, Fields.HasEach}
+use Rattle.mml_codec.specs.{Requests.fields_of, Requests.request, ReplyValues.reply_value}
 use Rattle.mml_codec.proofs.{RequestsLemmas.asked_there, RequestsLemmas.there_asked, ReplyValuesLemmas.read-reply}
-use Rattle.mml_laws.specs.Words.{asked_fields, rule_field, register_field, found_fields, tells_registers, is_view}
+use Rattle.mml_laws.specs.Words.{asked_fields, rule_field, register_field, found_fields}
 use Rattle.mml_codec.specs.declared.reply.Reply.TheVariants as reply
-use Rattle.mml_codec.specs.Replies as written
 
 -- `asked_fields` lists the same keys and words with which the codec writes the request
 spelt : (r : Request) → fields_of r ≡ asked_fields r
@@ -26,14 +24,8 @@ module _ (ids : List ℕ) (roster : RosterValue) where
       (found_fields ids roster (reply.See (record { at = at; node = i; regs = record { p = p; m = m } })))
   has_seen at i p m = grind (arith, nat_tests)
 
-  has_moved : (at place i : ℕ) (k : Kind) → HasEach (reply_value ids roster (reply.Move at place i k)) (found_fields ids roster (reply.Move at place i k))
-  has_moved at place i k = grind (arith, nat_tests)
-
   has_denied : (d : Denial) → HasEach (reply_value ids roster (reply.Deny d)) (found_fields ids roster (reply.Deny d))
   has_denied d = grind (arith, nat_tests)
-
-  has_refused : (r : Refused) → HasEach (reply_value ids roster (reply.Refuse r)) (found_fields ids roster (reply.Refuse r))
-  has_refused r = grind (arith, nat_tests)
 
   -- if a look has the value of a rule (or null) under a key, a program finds the word of this rule (or null) there
   found_rule : (key : List ℕ) (l : Look) (v : Data) → get key (reply_value ids roster (reply.Look l)) ≡ Some v → (k : Option Kind) → v ≡ kind_or_null_value k
@@ -43,15 +35,9 @@ module _ (ids : List ℕ) (roster : RosterValue) where
   found_pointer : (key : List ℕ) (d v : Data) → get key d ≡ Some v → (p : Option ℕ) → v ≡ pointer_value ids p → Has d (key, register_field ids p)
   found_pointer key d v at p e = grind (arith, nat_tests)
 
-  has_each : (r : Reply) → HasEach (reply_value ids roster r) (found_fields ids roster r)
-  has_each r = grind (arith, nat_tests, has_seen, found_rule, found_pointer, has_moved, has_denied, has_refused)
+  -- a reply has each key and value that `found_fields` lists
+  pub has_each : (r : Reply) → HasEach (reply_value ids roster r) (found_fields ids roster r)
+  has_each r = grind (arith, nat_tests, has_seen, found_rule, found_pointer, has_denied)
 
-  pub read_has : (r : Reply) (d : Data) → IsTable ids → IsRoster roster → IsAbout ids roster r → AreWritableCounts roster r
-      → read (written.text ids roster r) ≡ Some d → HasEach d (found_fields ids roster r)
-  read_has r d table is about counts h = grind (arith, nat_tests, same_Some, read-reply, has_each)
-
-silent_denial : (roster : RosterValue) (d : Denial) → list_any (λ f. tells_registers f.1) (written.fields_of roster (reply.Deny d)) ≡ false
-silent_denial roster d = grind (arith, nat_tests)
-
-pub silent : (roster : RosterValue) (r : Reply) → is_view r ≡ false → list_any (λ f. tells_registers f.1) (written.fields_of roster r) ≡ false
-silent roster r h = grind (arith, nat_tests, false≢true, silent_denial)
+-- what a program reads in the text of a reply
+pub ruleset found = (nat_tests, same_Some, read-reply, has_each)

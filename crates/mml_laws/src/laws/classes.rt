@@ -26,6 +26,7 @@ ghost use Rattle.mml_laws.specs.Served.{AreServed, named_by};
 /// A class is a house (one run of a lab): the contracts of `serve_host` and of `resume_class` imply what the laws about
 /// houses assume. Each window has served one session after another, from the events before the class to the window's
 /// final state, and the log has the list of all events. So each event of the class is named by exactly one reply.
+#[tactic(auto, using(std::proofs::lemmas::Bool::Decides::nat_tests, crate::proofs::ClassesLemmas::class_house))]
 pub fn a_class_is_a_house<S, K, C, R, W>()
     ensures hosted { (begun : List Event) (given : ℕ → Option Kept) (lab : LabValue)
         (sink : S → Option (List ℕ)) (remaining : R → Option (List ℕ)) (contents : W → Option (List ℕ))
@@ -52,6 +53,7 @@ pub fn a_class_is_a_house<S, K, C, R, W>()
 /// events, or a beginning of that text. In this record no event follows a refusal `journal`: at such a refusal, the seat
 /// had seen all events of the list. The clause `kept` is for the contracts of `serve_host` and `resume_class`, in
 /// which `given` is `kept_from` of a list of recorders. If each recorder in this list was empty, the assumption holds.
+#[tactic(auto, using(crate::proofs::ClassesLemmas::kept_fresh))]
 pub fn a_class_has_recorded_seats<S, K, C, R, W>()
     ensures seats { (begun : List Event) (given : ℕ → Option Kept) (lab : LabValue)
         (sink : S → Option (List ℕ)) (remaining : R → Option (List ℕ)) (contents : W → Option (List ℕ))

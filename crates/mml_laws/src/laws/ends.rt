@@ -37,6 +37,7 @@ pub fn a_house_that_is_over_is_stable<S>()
 
 /// Let a network have n nodes, and L links at some place of a journal after which no fault, link or cut comes. Then at
 /// most 2L + 3n moves are applied after this place, in at most 2L + 3n closes.
+#[tactic(auto, using(crate::proofs::EndsLemmas::few_moves, crate::proofs::EndsLemmas::few_closes))]
 pub fn few_moves_follow_the_last_fault()
     ensures moves { (lab : LabValue) (es fs : List Event) (bytes : List ℕ) → IsLab lab →
         IsJournalOf lab (es ++ fs) bytes → list_all is_of_step fs ≡ true →

@@ -20,6 +20,7 @@ ghost use Rattle.mml_laws.specs.Finishes.{FinishesByAsking};
 /// script with at most k moves and closes is granted all of them, and no node is privileged after it. Before each of
 /// these moves and closes, the script has a bye and the hello of the participant who asks. The same holds from the
 /// beginning of each lab that is read from a file, and allows k events.
+#[tactic(auto, using(crate::proofs::FinishesLemmas::can_finish, crate::proofs::FinishesLemmas::lab_can_finish))]
 pub fn a_run_can_always_be_finished_by_asking()
     ensures run { (lab : LabValue) (st : State) → IsHall lab st → st.halted ≡ false →
         EachHasOwner lab.roster (length lab.ids) →

@@ -23,6 +23,7 @@ ghost use Rattle.mml_laws.specs.Greeted.{IsTold, IsDenied};
 /// The rules of greeting. On a connection on which a participant is known, each hello is denied as `greeted`, and the
 /// participant stays known. Commands are judged as those of this participant. On a connection on which nobody is known,
 /// each command is denied as `not-greeted`, and a hello with nobody's name and key as `unknown`.
+#[tactic(auto, using(crate::proofs::GreetedLemmas::nobody_greets))]
 pub fn a_connection_is_known_as_one()
     ensures again { (r : RosterValue) (x : Who) (name key : List ℕ) →
         greeting r (Some x) (requests.Hello name key)
@@ -59,6 +60,7 @@ pub fn a_hall_answers_by_who_is_known()
 /// `not-greeted` if nobody is known there. Either may be refused as `memory` instead, and neither changes anything. If
 /// a participant is known, a command is answered as a command of this participant, who stays known, or is refused as
 /// `memory`.
+#[tactic(auto, using(crate::proofs::GreetedLemmas::session_again, crate::proofs::GreetedLemmas::session_judged, crate::proofs::GreetedLemmas::session_unknown))]
 pub fn a_session_answers_by_who_is_known()
     ensures again { (lab : LabValue) (st next : session.Standing) (line : List ℕ) (r : Reply)
         (x : Who) (name key : List ℕ) → st.known ≡ Some x →

@@ -12,6 +12,7 @@ ghost use Rattle.mml_laws.specs.JournalWords.{words_of};
 
 /// The line of an event has its place, the number of the configuration before it, and the words that `words_of` lists
 /// for the event. One space separates them.
+#[tactic(auto, using(crate::proofs::JournalWordsLemmas::line_words))]
 pub fn journals_have_these_words()
     ensures { (ids : List ℕ) (roster : RosterValue) (place before : ℕ) (e : Event) →
         event_line ids roster place before e

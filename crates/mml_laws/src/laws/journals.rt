@@ -8,6 +8,7 @@ ghost use Rattle.mml_board.specs.declared.event.Event.{Event};
 ghost use Rattle.mml_audit.specs.AuditMeaning.{IsJournalOf};
 
 /// One journal has one list: the same bytes are the journal of no two lists of a lab's events.
+#[tactic(auto, using(crate::proofs::JournalsLemmas::same_list))]
 pub fn one_journal_has_one_list()
     ensures { (lab : LabValue) (es fs : List Event) (bytes : List ℕ) → IsLab lab →
         IsJournalOf lab es bytes → IsJournalOf lab fs bytes → es ≡ fs }

@@ -10,6 +10,7 @@ ghost use Rattle.mml_tally.specs.Runs.{run_of};
 
 /// A student's marks count the closes that applied a move of the student. These closes are at most as many as the
 /// closes of the run.
+#[tactic(auto, using(crate::proofs::RunClosesLemmas::closes_of_run))]
 pub fn no_student_has_more_closes_than_the_run()
     ensures { (r : RosterValue) (es : List Event) (s : ℕ) →
         (marks_of r es s).closes ≤ (run_of es).closes }

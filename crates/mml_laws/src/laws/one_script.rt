@@ -39,6 +39,7 @@ ghost use Rattle.mml_laws.specs.ServedAnswers.{answers_in_house};
 /// The first three clauses say this for a house, for a class, and for a server. That for a class says it of lists of
 /// lines and replies, one for each seat, which its sessions can have had. The script of a resumed class goes on after
 /// the events from before the class. A script that begins without events is a transcript.
+#[tactic(auto, using(crate::proofs::OneScriptLemmas::one_script, crate::proofs::OneScriptLemmas::as_transcript))]
 pub fn a_class_is_one_script<S, K, C, R, W>()
     ensures house { (lab : LabValue) (begun : List Event) (contents : S → Option (List ℕ)) (log : Log S)
         (seats : List (List (List Answered))) (windows : List WindowValue) → IsLab lab →
@@ -75,6 +76,7 @@ pub fn a_class_is_one_script<S, K, C, R, W>()
 /// house may have begun with earlier events. The other clauses say of a house, a class, a resumed class and a server
 /// that it is one script, as `a_class_is_one_script` states. The lines of a resumed class are those since it was
 /// resumed. Nothing is said of the replies from before: an earlier journal may have been halted.
+#[tactic(auto, using(crate::proofs::ServedLemmas::house_written, crate::proofs::OneScriptLemmas::one_script))]
 pub fn a_class_that_ends_unhalted_is_one_script<S, K, C, R, W>()
     ensures written { (lab : LabValue) (begun : List Event) (first : ℕ) (contents : S → Option (List ℕ)) (log : Log S)
         (seats : List (List (List Answered))) (windows : List WindowValue) →

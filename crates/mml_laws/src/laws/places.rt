@@ -24,6 +24,7 @@ ghost use Rattle.mml_laws.specs.Told.{EachNamesItsEvent, NamesItsEventIn, EachNa
 /// connection. The command was granted after events 1 to p - 1 of the final list, and event p is what was granted. Line
 /// p of the journal is the event's line. The final list begins with the events before the run. Each later event has
 /// exactly one reply that names it, and these replies come in the order of the events.
+#[tactic(auto, using(crate::proofs::HallPlacesLemmas::hall_names, crate::proofs::HallPlacesLemmas::hall_once, crate::proofs::HallPlacesLemmas::hall_kept))]
 pub fn replies_of_a_hall_name_their_events()
     ensures told { (lab : LabValue) (st end : hall.State) (lines : List hall.RequestLine)
         (rs : List Reply) (run : hall.Run lab st lines rs end) → IsHall lab st →
@@ -41,6 +42,7 @@ pub fn replies_of_a_hall_name_their_events()
 /// window has seen when the session ends. The list of the house is such a list. In the session, a reply that names
 /// place p replies to a command of the participant who was known. The command was granted after events 1 to p - 1 of
 /// this list, and event p is what was granted.
+#[tactic(auto, using(crate::proofs::SessionPlacesLemmas::talk_names, crate::proofs::SessionPlacesLemmas::line_names))]
 pub fn replies_of_a_session_name_their_events()
     ensures talk { (lab : LabValue) (st : session.Standing) (t : Talk lab st) (l : List Event) →
         IsLab lab → is_legal_in lab l ≡ true → length l ≤ lab.events →

@@ -23,6 +23,7 @@ ghost use Rattle.mml_laws.specs.Ruled.{IsGrantable, IsShown};
 /// denied exactly if the verdict denies it, for the same reason, and shows something exactly if the verdict says so. If
 /// the verdict grants it, the ruling is `full` if the limit is reached, and otherwise `journal` if the journal is
 /// halted. In any other case the ruling grants it, with its effect in that world.
+#[tactic(auto, using(crate::proofs::RuledLemmas::ruled_denied, crate::proofs::RuledLemmas::ruled_shown, crate::proofs::RuledLemmas::ruled_full, crate::proofs::RuledLemmas::ruled_journal, crate::proofs::RuledLemmas::ruled_granted))]
 pub fn the_ruling_is_the_verdicts()
     ensures denied { (ids : List ℕ) (r : RosterValue) (limit : ℕ) (is_halted : Bool) (w : World)
         (x : Who) (c : Command) (d : Denial) →

@@ -23,6 +23,7 @@ ghost use Rattle.mml_lab_file.specs.Sameness.{IsSameLab};
 /// A journal means the same in two labs that are the same. A line of a journal is read as the same event in both, or
 /// has the same error, and an event is written as the same line. A list of events leads to the same world. The
 /// participants have the same names, and own the same nodes.
+#[tactic(auto, using(crate::proofs::SameLabsLemmas::said_alike, crate::proofs::SameLabsLemmas::line_alike, crate::proofs::SameLabsLemmas::world_alike, crate::proofs::SameLabsLemmas::name_alike, crate::proofs::SameLabsLemmas::owner_alike))]
 pub fn same_labs_read_alike()
     ensures read { (a b : LabValue) (bytes : List ℕ) → IsSameLab a b →
         said_by a.ids a.roster bytes ≡ said_by b.ids b.roster bytes }
@@ -40,6 +41,7 @@ pub fn same_labs_read_alike()
 /// Audits over two labs that are the same, and allow equally many events, have the same result. The same bytes pass in
 /// both and lead to the same world, or have the same error in the same line. In each world, an event is legal in both
 /// labs or in neither.
+#[tactic(auto, using(crate::proofs::SameAuditsLemmas::audits_alike, crate::proofs::SameAuditsLemmas::legal_alike))]
 pub fn same_labs_audit_alike()
     ensures audit { (a b : LabValue) (bytes : List ℕ) → IsLab a → IsLab b → IsSameLab a b →
         a.events ≡ b.events → audited a bytes ≡ audited b bytes }
@@ -51,6 +53,7 @@ pub fn same_labs_audit_alike()
 /// both or in neither. Then each command has the same ruling in both, in each world: the command is denied or refused
 /// in both for the same reason, granted in both with the same effect, or answered in both with the same result. A hello
 /// that is granted has the same reply line in both labs, even if their limits differ.
+#[tactic(auto, using(crate::proofs::SameRulingsLemmas::rulings_alike, crate::proofs::SameRulingsLemmas::hellos_alike))]
 pub fn same_labs_rule_alike()
     ensures rulings { (a b : LabValue) (limit : ℕ) (is_halted : Bool) (w : World) (who : Who)
         (c : Command) → IsLab a → IsLab b → IsSameLab a b →

@@ -21,6 +21,7 @@ ghost use Rattle.mml_laws.specs.Lists.{HasLists, listed};
 ghost use Rattle.mml_laws.specs.Words.{IsDenial, asked_fields, found_fields, tells_registers, is_view};
 
 /// Each denial has the clause number, the name and the text that the contract lists for it.
+#[tactic(auto, using(std::proofs::lemmas::Bool::Decides::nat_tests))]
 pub fn denials_have_these_words()
     ensures { (at : ℕ) → AllByRecursion IsDenial (
         (denial.NotGreeted, 0, codes "not-greeted", codes "say hello first")
@@ -43,12 +44,14 @@ pub fn denials_have_these_words()
 {}
 
 /// A JSON value is read as a request exactly if it has the words and keys that `asked_fields` lists for that request.
+#[tactic(auto, using(crate::proofs::WordsLemmas::asks_each))]
 pub fn requests_have_these_words()
     ensures { (d : Data) (r : Request) → (request d ≡ Some r) ↔ HasEach d (asked_fields r) }
 {}
 
 /// A program that reads a reply's text as JSON finds under each key the value that `found_fields` lists for that reply.
 /// Lists are left out here.
+#[tactic(auto, using(crate::proofs::WordsLemmas::found))]
 pub fn replies_are_read_by_these_words()
     ensures { (ids : List ℕ) (roster : RosterValue) (r : Reply) (d : Data) → IsTable ids →
         IsRoster roster → IsAbout ids roster r → AreWritableCounts roster r →
@@ -57,6 +60,7 @@ pub fn replies_are_read_by_these_words()
 
 /// Only a see, a look and a report have keys with registers, or with values that are computed from registers. The
 /// definition `tells_registers` lists these keys.
+#[tactic(auto, using(std::proofs::lemmas::Bool::Decides::nat_tests))]
 pub fn only_views_tell_registers()
     ensures { (roster : RosterValue) (r : Reply) → is_view r ≡ false →
         list_any (λ f. tells_registers f.1) (written.fields_of roster r) ≡ false }
@@ -65,6 +69,7 @@ pub fn only_views_tell_registers()
 /// A program that reads a reply's text as JSON finds the lists of `listed`, each under its key. A look has the
 /// neighbours; a report has the free nodes, the open links, the pairs and the privileged nodes; and a close has the
 /// nodes that moved.
+#[tactic(auto, using(crate::proofs::ListsLemmas::read_lists))]
 pub fn replies_have_these_lists()
     ensures { (ids : List ℕ) (roster : RosterValue) (r : Reply) (d : Data) →
         IsTable ids → IsRoster roster → IsAbout ids roster r → AreWritableCounts roster r →
