@@ -5,8 +5,7 @@ use Rattle.std.proofs.Common.{◌≡◌, ℕ, ◌-◌, Bool, true, List, [], ◌
 use Rattle.std.proofs.lemmas.{Bool.cases_lt, Bool.false≢true, Bool.Decides.nat_tests, List.Elements.All-set, List.Elements.All-replicate, List.get_or_past}
 use Rattle.mml_lab.specs.{declared.who.Who.Who, Labs.LabValue}
 use Rattle.mml_codec.specs.{declared.reply.Reply.Reply, Lines.request_in}
-use Rattle.mml_hall.specs.Turns.{State, Outcome, Turn, Run, RequestLine, plain_turn, known_on, opening}
-use Rattle.mml_hall.specs.Transcripts.{Transcript, output_lines}
+use Rattle.mml_hall.specs.{Turns.State, Turns.Outcome, Turns.Turn, Turns.Run, Turns.RequestLine, Turns.plain_turn, Turns.known_on, Turns.opening, Transcripts.Transcript, Transcripts.output_lines}
 use Rattle.mml_hall.proofs.TurnsLemmas.{by_turn}
 use Rattle.mml_audit.proofs.AuditMeaningLemmas.{reached_first}
 use Rattle.mml_hidden.specs.{Twins.AreTwins, Twins.BeginAlike, Twins.StatesAlike, Twins.is_hers, Sessions.IsUnhindered}
@@ -70,9 +69,8 @@ plain_there lab st k line = grind (arith, nat_tests, by_turn)
 -- if no reply of a run is the refusal `memory` or `journal`, its replies and its last state are those of plain turns
 pub plain_run : (lab : LabValue) (st : State) (lines : List RequestLine) (rs : List Reply) (end : State) → Run lab st lines rs end → AreUnhindered rs
     → (rs ≡ replies_to lab st lines) × (end ≡ end_of lab st lines)
-plain_run lab st [] [] end run free = (refl, run)
 plain_run lab st (line ∷ lines) (r ∷ rs) end (next, here, run) (now, free) = grind (arith, nat_tests, plain_there, (plain_run lab next lines rs end run free))
-plain_run lab st _ _ end run free = absurd run
+plain_run lab st _ _ end run free = grind arith
 
 -- the replies in a transcript are those of plain turns if none is the refusal `memory` or `journal`
 pub plain_transcript : (lab : LabValue) (t : Transcript lab) → AreUnhindered t.replies → t.replies ≡ replies_to lab (opening lab) t.lines

@@ -108,8 +108,7 @@ module _ (lab other : LabValue) (twins : AreTwins lab other) (s : ℕ) (st su : 
       → (is_hers s (known_on st k) ≡ true → (turn m lab st k line).reply ≡ (turn m other su k line).reply)
       × StatesAlike lab s (turn m lab st k line).state (turn m other su k line).state
   twin_turn stay =
-      let known = turn_known lab st su.world su.events m k line in
-      grind (arith, nat_tests, alike_here s a.worlds, turn_world lab st k line a.first m, turn_world lab su_here k line a.second m, same_turn, known)
+      grind (arith, nat_tests, alike_here s a.worlds, turn_world lab st k line a.first m, turn_world lab su_here k line a.second m, same_turn, turn_known)
 
 -- after a line of somebody else without a mishap, the states are alike if the worlds are
 pub twin_plain : (lab other : LabValue) → AreTwins lab other → (s : ℕ) (st su : State) → StatesAlike lab s st su → (k : ℕ) (line : List ℕ)
