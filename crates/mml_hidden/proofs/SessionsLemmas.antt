@@ -49,6 +49,7 @@ module _ (lab other : LabValue) (is : IsLab lab) (too : IsLab other) (t : AreTwi
 
   -- ---- all lines
 
+  -- the same lines have the same replies in both sessions, and the same participant (or nobody) is known at the end
   pub session_both : (st su : Standing) (lines : List (List ℕ)) (rs qs : List Reply) (end fin : Standing) (one : Run lab st lines rs end)
       (two : Run other su lines qs fin) → st.known ≡ su.known → AreToldAlike lab other s st su lines rs qs end fin one two → (rs ≡ qs) × (end.known ≡ fin.known)
   session_both st su (line ∷ lines) (r ∷ rs) (q ∷ qs) end fin one two e a =
