@@ -1,15 +1,14 @@
 -- The answered lines of a session are a chain of its turns. After the reply to a bye nobody is known. A participant is
 -- known on a connection from a granted hello to a bye.
-use Rattle.std.{proofs.lemmas.Bool.Decides.nat_tests, specs.List.AllByRecursion}
+use Rattle.std.{proofs.lemmas.Bool.Decides.nat_tests, proofs.lemmas.Bool.false≢true, specs.List.AllByRecursion}
 use Rattle.std.proofs.Common.{◌≡◌, ℕ, true, false, List, [], ◌∷◌, ◌++◌, Option, None, refl, sym, append-nil, arith}
 use Rattle.mml_lab.specs.Labs.{LabValue}
-use Rattle.mml_lines.specs.{LinesOf.IsWithinLimit, Runs.Chain}
-use Rattle.mml_lines.proofs.RunsLemmas.{by_steps}
-use Rattle.mml_codec.specs.declared.{TheConstants.MAX_REQUEST, reply.Reply.Reply}
+use Rattle.mml_lines.{specs.LinesOf.IsWithinLimit, specs.Runs.Chain, proofs.RunsLemmas.by_steps}
+use Rattle.mml_codec.specs.{declared.TheConstants.MAX_REQUEST, declared.reply.Reply.Reply, Lines.request_in}
+use Rattle.mml_engine.proofs.TurnsLemmas.{by_greeting}
 use Rattle.mml_window.specs.Windows.{WindowValue}
 use Rattle.mml_session.specs.{declared.session.SessionEnd.SessionEnd, Turns.Standing, Turns.Turn, Turns.Run, Turns.is_bye, Talks.Talk, Talks.LineTurn, Talks.nobody_known, Ends.Ended}
-use Rattle.mml_laws.specs.{Served.Answered, Served.answered, Served.answers, Served.answers_in, Served.IsConversation, OneScript.says_bye}
-use Rattle.mml_laws.proofs.ByesLemmas.{bye_forgets}
+use Rattle.mml_laws.{specs.Served.Answered, specs.Served.answered, specs.Served.answers, specs.Served.answers_in, specs.Served.IsConversation, specs.OneScript.says_bye}
 use Rattle.mml_session.specs.declared.session.SessionEnd.TheVariants as end
 
 -- the turn of this answered line, which isn't too long for a request
@@ -24,9 +23,9 @@ pub record Says (lab : LabValue) (st : Standing) (said : List Answered) (new : W
   pub stands : end.window ≡ new
   pub forgets : says_bye said ≡ true → end.known ≡ None
 
-module _ (lab : LabValue) (more : List Answered) (new : WindowValue) where
-  one_first : (st next : Standing) (a : Answered) → TurnAt lab a st next → is_bye a.reply ≡ false → Says lab next more new → Says lab st (a ∷ more) new
-  one_first st next a turn none s = grind (arith, nat_tests)
+-- after the reply to a bye nobody is known
+bye_forgets : (lab : LabValue) (st next : Standing) (line : List ℕ) (r : Reply) → is_bye r ≡ true → Turn lab st line r next → next.known ≡ None
+bye_forgets lab st next line r is turn = grind (arith, nat_tests, request_in line, by_greeting, false≢true)
 
 module _ (lab : LabValue) (more : List Answered) (new : WindowValue) where
   run_first : (st mid : Standing) (lines : List (List ℕ)) (rs : List Reply) → Run lab st lines rs mid → AllByRecursion (IsWithinLimit MAX_REQUEST) lines
@@ -34,8 +33,7 @@ module _ (lab : LabValue) (more : List Answered) (new : WindowValue) where
   run_first =
       by_steps (Turn lab) (λ st lines rs mid. AllByRecursion (IsWithinLimit MAX_REQUEST) lines → AllByRecursion (λ r. is_bye r ≡ false) rs
       → Says lab mid more new → Says lab st (answers lines rs ++ more) new) (λ st short none s. s)
-      (λ st next mid line r lines rs turn rest short none s.
-      one_first lab (answers lines rs ++ more) new st next (answered line r) (turn, short.0) none.0 (rest short.1 none.1 s))
+      (λ st next mid line r lines rs turn rest short none s. grind (arith, nat_tests, turn, short.0, none.0, rest short.1 none.1 s))
 
 module _ (lab : LabValue) (old new : WindowValue) where
   talk_says : (t : Talk lab (nobody_known old)) → t.end.window ≡ new → Says lab (nobody_known old) (answers t.lines t.replies) new

@@ -1,18 +1,14 @@
 -- The lines that ask for grants and closes, with the bye and the hello before each, can be lines of a script.
 use Rattle.std.proofs.lemmas.{Bool.Decides.nat_tests, Bool.and_parts, Bool.cases_lt, Bool.false≢true, Fmt.length-decimal-le, Str.IsUtf8-from_ascii, List.get_or_default, List.get_or_past}
-use Rattle.std.proofs.Common.{◌≡◌, ◌≢◌, ℕ, ◌<◌, ◌≤◌, ◌+◌, ◌*◌, ◌^◌, true, List, [], ◌∷◌, ◌++◌, codes, decimal, length, refl, arith, length-append, get_or}
-use Rattle.std.specs.{List.All}
+use Rattle.std.proofs.Common.{◌≡◌, ℕ, ◌<◌, ◌≤◌, ◌*◌, ◌^◌, true, List, [], ◌∷◌, ◌++◌, codes, decimal, length, refl, arith, length-append}
 use Rattle.json.specs.Print.{escape_byte, escape, quoted}
-use Rattle.mml_ids.specs.Lines.{IsUnbroken}
-use Rattle.mml_lab.specs.{declared.who.Who.Who, Labs.LabValue, Labs.IsLab, Rosters.IsPrincipal, Rosters.name_of, Rosters.key_of, Rosters.is_name, Rosters.is_key, RosterMeaning.IsKey}
+use Rattle.mml_lab.specs.{declared.who.Who.Who, Labs.LabValue, Labs.IsLab, Rosters.IsPrincipal, Rosters.name_of, Rosters.key_of, Rosters.is_name, Rosters.is_key}
 use Rattle.mml_lab.proofs.FormLemmas.{name-means, key-means}
 use Rattle.mml_board.specs.{declared.event.Event.Event, World.World}
 use Rattle.mml_policy.specs.{declared.command.Asked.Asked, Asking.id_of, Asking.asked_of, Asking.command_of}
-use Rattle.mml_journal.specs.EventLines.{IsEventOf}
-use Rattle.mml_journal.proofs.NameLemmas.{name_is_utf8}
+use Rattle.mml_journal.{specs.EventLines.IsEventOf, proofs.NameLemmas.name_is_utf8}
 use Rattle.mml_convergence.specs.Rest.{is_grant_or_close}
-use Rattle.mml_codec.specs.{declared.TheConstants.MAX_REQUEST, declared.request.Request.Request, Canonical.canonical, Canonical.IsWritable}
-use Rattle.mml_codec.proofs.CanonicalLemmas.{canonical_line}
+use Rattle.mml_codec.{specs.declared.TheConstants.MAX_REQUEST, specs.declared.request.Request.Request, specs.Canonical.canonical, specs.Canonical.IsWritable, proofs.CanonicalLemmas.canonical_line}
 use Rattle.mml_hall.specs.ScriptLines.{IsScriptLine}
 use Rattle.mml_laws.specs.Finishes.{line_for, hello_of}
 use Rattle.mml_board.specs.declared.event.Event.TheVariants as event
@@ -58,30 +54,21 @@ escape_short : (s : List ℕ) → length (escape s) ≤ 6 * length s
 escape_short [] = omega arith
 escape_short (x ∷ xs) = omega (arith, length-append (escape_byte x) (escape xs), escape_byte_short x, escape_short xs)
 
-hello_short : (name key : List ℕ) → length name ≤ 32 → length key ≤ 64 → length (canonical (requests.Hello name key)) ≤ MAX_REQUEST
-hello_short name key short short' = grind (arith, nat_tests, length-append, escape_short, hello_text)
-
 -- ---- a request on the first connection
-
-unbroken_all : (bs : List ℕ) → All (λ b. b ≢ 10) bs → IsUnbroken bs
-unbroken_all bs h = λ i k. h i 0 k
 
 module _ (lab : LabValue) (is : IsLab lab) where
   -- a request whose text isn't too long can be a line of a script
   comes : (q : Request) → IsWritable q → length (canonical q) ≤ MAX_REQUEST → IsWritable q × IsScriptLine lab.sessions (line_for q)
-  comes q can short = (can, grind (arith, nat_tests, is.some_sessions, unbroken_all, canonical_line, length-decimal-le, length-append))
+  comes q can short = (can, grind (arith, nat_tests, is.some_sessions, canonical_line, length-decimal-le, length-append))
 
   pub bye_comes : IsScriptLine lab.sessions (line_for requests.Bye)
   bye_comes = (comes requests.Bye (tt, tt) (rw bye_text (omega arith))).1
 
-  key_ascii : (key : List ℕ) → IsKey key → (i : ℕ) → get_or key i 0 < 128
-  key_ascii key k i = grind (arith, nat_tests, cases_lt, get_or_past)
-
   pub hello_comes : (who : Who) → IsPrincipal lab.roster who → IsWritable (hello_of lab who) × IsScriptLine lab.sessions (line_for (hello_of lab who))
   hello_comes who member =
       let formed = and_parts (is_name (name_of lab.roster who)) (is_key (key_of lab.roster who)) (is.roster.formed who member) in
-      let short = hello_short _ _ ((name-means (name_of lab.roster who)).0 formed.0).short ((key-means (key_of lab.roster who)).0 formed.1).short in
-      comes (hello_of lab who) (grind (arith, nat_tests, formed, IsUtf8-from_ascii, key_ascii, key-means, name_is_utf8)) short
+      comes (hello_of lab who) (grind (arith, nat_tests, formed, IsUtf8-from_ascii, cases_lt, get_or_past, key-means, name_is_utf8))
+      (grind (arith, nat_tests, formed, name-means, key-means, hello_text, length-append, escape_short))
 
   id_small : (i : ℕ) → i < length lab.ids → id_of lab.ids i < 2 ^ 64
   id_small i there = omega (arith, is.ids.within i there, get_or_default lab.ids i 0 (id_of lab.ids i) there)

@@ -8,12 +8,11 @@ use Rattle.mml_board.specs.declared.event.Event.{Event}
 use Rattle.mml_lines.{specs.Runs.Runs, specs.Runs.Chain, proofs.RunsLemmas.by_steps}
 use Rattle.mml_codec.specs.declared.reply.Reply.{Reply}
 use Rattle.mml_window.specs.{Logs.IsLogFrom, Tallies.IsEachOnceFrom, Windows.WindowValue, Windows.window}
-use Rattle.mml_session.specs.Records.{Kept, Stand, stand, Adds}
+use Rattle.mml_session.specs.Records.{Kept, Stand, stand}
 use Rattle.mml_serving.specs.Serving.{Each}
 use Rattle.mml_hosting.specs.declared.{hosted.Hosted.Hosted, seat.SeatRecord.SeatRecord, seat.ServedSession.ServedSession}
 use Rattle.mml_hosting.specs.{Hosting.HostsFrom, Ports.numbers_of, Seats.Led, Seats.Leads, Seats.Terms, Seats.terms, Seats.kept_from, Seats.sessions_of}
-use Rattle.mml_record.specs.RecordedSeats.{Held, IsResumedSeat, IsFinalText, fresh}
-use Rattle.mml_record.proofs.TextLemmas.{are_final}
+use Rattle.mml_record.{specs.RecordedSeats.Held, specs.RecordedSeats.IsResumedSeat, specs.RecordedSeats.IsFinalText, specs.RecordedSeats.fresh, proofs.TextLemmas.are_final}
 use Rattle.mml_laws.specs.{Classes.seat_of, Classes.seats_of, ClassAnswers.HasAnswers, ClassAnswers.HaveAnswers, OneScript.IsOneScript}
 use Rattle.mml_laws.specs.Served.{Answered, answers_in, AreConversations, AreHeard, AreWritten, AreServed, replies_of, named_by}
 use Rattle.mml_laws.proofs.{ZipsLemmas.zip_append, ServedLemmas.house_once, ServedLemmas.house_written, OneScriptLemmas.one_script}
@@ -45,9 +44,6 @@ module _ {K C R W : Type 0} (t : Terms K C R W) where
 
   -- ---- the seats of a record
 
-  still_kept : (old new : Option Kept) (bytes : List ℕ) → Adds old new bytes → is_some old ≡ true → is_some new ≡ true
-  still_kept old new bytes adds some = grind (arith, nat_tests)
-
   -- the sessions of a seat are those of a recorded seat (`Held`). If contracts can name what the seat's recorder has kept
   -- before them, they can name it afterwards
   held : (n : ℕ) (ss : List (ServedSession R W)) (a b : Stand) → Chain (Leads t n) a ss b
@@ -56,7 +52,7 @@ module _ {K C R W : Type 0} (t : Terms K C R W) where
   held n (s ∷ ss) a b led =
       let rest = held n ss led.0 b led.2 in
       let one : Held t.lab n s.ending.end a led.0 = record { who = _; input = _; left = _; wrote = _; wrote' = _; ended = led.1 } in
-      ((led.0, one, rest.0), λ some. rest.1 (still_kept a.kept led.0.kept _ led.1.2 some))
+      ((led.0, one, rest.0), λ some. rest.1 (grind (arith, nat_tests, led.1.2, a.kept, led.0.kept)))
 
 -- ---- the numbers of the seats
 

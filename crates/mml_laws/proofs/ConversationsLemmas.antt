@@ -8,10 +8,8 @@ use mathlib.Core.List.{IsPrefix}
 use Rattle.mml_lab.specs.{declared.who.Who.Who, Labs.LabValue}
 use Rattle.mml_board.specs.declared.event.Event.{Event}
 use Rattle.mml_lines.specs.{LinesOf.IsWithinLimit, Runs.Chain}
-use Rattle.mml_codec.specs.{declared.TheConstants.MAX_REQUEST}
-use Rattle.mml_codec.proofs.CanonicalLemmas.{request_in-canonical, canonical_line}
-use Rattle.mml_window.specs.{Windows.WindowValue, Windows.window, Tallies.times, Tallies.told_of}
-use Rattle.mml_window.proofs.TallyLemmas.{times_append}
+use Rattle.mml_codec.{specs.declared.TheConstants.MAX_REQUEST, proofs.CanonicalLemmas.request_in-canonical, proofs.CanonicalLemmas.canonical_line}
+use Rattle.mml_window.{specs.Windows.WindowValue, specs.Windows.window, specs.Tallies.times, specs.Tallies.told_of, proofs.TallyLemmas.times_append}
 use Rattle.mml_session.specs.{Turns.Standing, Turns.standing, Talks.nobody_known}
 use Rattle.mml_laws.specs.Served.{Answered, IsConversation, AreConversations, AreHeard, IsUnhalted, AreWritten}
 use Rattle.mml_laws.specs.OneScript.{bye, says_bye, bye_after, on_one_connection}

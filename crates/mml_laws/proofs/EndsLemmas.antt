@@ -4,24 +4,18 @@ use Rattle.std.proofs.Common.{◌≡◌, ◌<◌, ◌≤◌, ◌+◌, ◌*◌, �
 use Rattle.std.{specs.List.list_all, proofs.lemmas.Bool.and_parts, proofs.lemmas.Bool.false_from_ne_true, proofs.lemmas.Bool.Decides.nat_tests}
 use Rattle.mml_rules.specs.Matching.{IsStable}
 use Rattle.mml_lab.specs.Labs.{LabValue, IsLab, link_count}
-use Rattle.mml_lab_file.specs.Reading.{lab_of}
-use Rattle.mml_lab_file.proofs.{LabMeaningLemmas.lawful, OwnersLemmas.one_or_two}
+use Rattle.mml_lab_file.{specs.Reading.lab_of, proofs.LabMeaningLemmas.lawful, proofs.OwnersLemmas.one_or_two}
 use Rattle.mml_board.specs.{declared.event.Event.Event, Events.is_legal, Events.done_by, Runs.is_legal_list, Lists.world_in, World.World, World.size, World.configuration, World.opening_of}
 use Rattle.mml_board.proofs.RunsLemmas.{list-world, legal-append, place-world_of}
 use Rattle.mml_policy.specs.{declared.ruling.Ruling.TheVariants.Granted, Alike.IsWorldOf, Asking.asker, Asking.command_of, Asking.id_of, Asking.asked_of, Rulings.event_of}
 use Rattle.mml_policy.proofs.AskingLemmas.{legal_granted}
 use Rattle.mml_audit.specs.AuditMeaning.{IsJournalOf}
-use Rattle.mml_stable.specs.{Listed.IsMaximalMatching, Reports.report_of}
+use Rattle.mml_stable.{specs.Listed.IsMaximalMatching, specs.Reports.report_of, proofs.ListedLemmas.listed_matching, proofs.MatchingLemmas.stable-means}
 use Rattle.mml_convergence.specs.{Moves.applied_over, Moves.count_closes, Rest.IsOver, Runs.is_of_step}
 use Rattle.mml_convergence.proofs.{AppliedLemmas.moves_bounded, AppliedLemmas.closes_bounded, RestLemmas.ended, RestLemmas.same_size}
-use Rattle.mml_stable.proofs.{ListedLemmas.listed_matching, MatchingLemmas.stable-means}
 use Rattle.mml_window.specs.Rulings.{ruling_while}
-use Rattle.mml_laws.specs.Ends.{GrantsNoStep}
-use Rattle.mml_laws.proofs.{ChoicesLemmas.opening, RuledLemmas.ruled_granted}
+use Rattle.mml_laws.{specs.Ends.GrantsNoStep, proofs.ChoicesLemmas.opening, proofs.RuledLemmas.ruled_granted}
 use Rattle.mml_board.specs.declared.event.Event.TheVariants as event
-
-some_not_none : {e : Event} → Some e ≡ None → ⊥
-some_not_none h = cc
 
 -- ---- the world after a legal list of events
 
@@ -43,7 +37,7 @@ module _ (lab : LabValue) (is : IsLab lab) (w : World) (in_w : IsWorldOf lab.ids
         (legal_granted lab.ids is.ids w in_w lab.roster e legal, room, running, refl)
 
     none_legal : (e : Event) → event_of (ruling_while lab halted w (asker e) (command_of lab.ids w e)) ≡ None → is_legal lab.roster w e ≡ false
-    none_legal e none = false_from_ne_true _ (λ legal. some_not_none (sym (ap event_of (legal_takes_place e legal)) ∙ none))
+    none_legal e none = false_from_ne_true _ (λ legal. let h : Some e ≡ None = sym (ap event_of (legal_takes_place e legal)) ∙ none in cc)
 
     over : GrantsNoStep lab halted w → IsOver lab.roster w
     over none = record {

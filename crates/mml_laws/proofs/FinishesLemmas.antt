@@ -1,18 +1,15 @@
 -- A run can be finished by a script that asks for the events that are still missing. A world is the state of a run
 -- after some events: its network and its chosen moves.
 use Rattle.std.{proofs.lemmas.Bool.Decides.nat_tests, proofs.lemmas.Bool.and_parts, proofs.lemmas.Bool.and_from, proofs.lemmas.List.get_or-set_same, specs.List.list_all}
-use Rattle.std.proofs.Common.{◌≡◌, ℕ, ◌<◌, ◌≤◌, ◌+◌, ◌^◌, true, false, List, [], ◌∷◌, length, Option, None, Some, Ok, refl, sym, ap, ◌∙◌, arith}
+use Rattle.std.proofs.Common.{◌≡◌, ℕ, ◌<◌, ◌≤◌, ◌+◌, true, false, List, [], ◌∷◌, length, Option, None, Some, Ok, refl, sym, ap, ◌∙◌, arith}
 use Rattle.mml_rules.specs.Matching.{IsStable}
 use Rattle.mml_lab.specs.{declared.who.Who.Who, Labs.LabValue, Labs.IsLab, Labs.link_count, Rosters.IsPrincipal, Rosters.name_of, Rosters.key_of, RosterMeaning.IsKnownAs}
-use Rattle.mml_lab_file.specs.Reading.{lab_of}
-use Rattle.mml_lab_file.proofs.{LabMeaningLemmas.lawful, OwnersLemmas.one_or_two}
-use Rattle.mml_board.specs.{declared.done.Done.Done, declared.event.Event.Event, World.World, World.configuration, Events.is_legal, Events.after, Events.done_by, Runs.is_legal_list, Runs.world_of}
+use Rattle.mml_lab_file.{specs.Reading.lab_of, proofs.LabMeaningLemmas.lawful, proofs.OwnersLemmas.one_or_two}
+use Rattle.mml_board.specs.{declared.event.Event.Event, World.World, World.configuration, Events.is_legal, Events.after, Events.done_by, Runs.is_legal_list, Runs.world_of}
 use Rattle.mml_board.proofs.EventsLemmas.{next_place}
 use Rattle.mml_policy.specs.Asking.{asker, command_of}
-use Rattle.mml_journal.specs.EventLines.{IsEventOf}
-use Rattle.mml_journal.proofs.MemberLemmas.{legal_member}
-use Rattle.mml_convergence.specs.{Rest.EachHasOwner, Rest.is_grant_or_close, Most.events_to_rest}
-use Rattle.mml_convergence.proofs.LeadsToRestLemmas.{reached}
+use Rattle.mml_journal.{proofs.MemberLemmas.legal_member}
+use Rattle.mml_convergence.{specs.Rest.EachHasOwner, specs.Rest.is_grant_or_close, specs.Most.events_to_rest, proofs.LeadsToRestLemmas.reached}
 use Rattle.mml_codec.specs.{declared.reply.Reply.Reply, declared.greeting.Greeting.TheVariants.Answered, Canonical.IsWritable, Greetings.greeting, Rulings.reply_of_done}
 use Rattle.mml_codec.proofs.{CanonicalLemmas.request_in-canonical, GreetingsLemmas.hello_is_granted}
 use Rattle.mml_hall.specs.{Turns.State, Turns.TurnOf, Turns.nothing, Turns.known_on, Turns.with_known, Turns.with_event, Turns.opening, Turns.outcome_of, Halls.IsHall}
@@ -29,23 +26,13 @@ number_few : (w : World) (es : List Event) → w.number ≤ w.place → (world_o
 number_few w [] few = few
 number_few w (e ∷ es) few = number_few (after w e) es (grind (arith, nat_tests))
 
-granted_done : (at place : ℕ) (d : Done) → is_granted (reply_of_done at place d) ≡ true
-granted_done at place d = grind (arith, nat_tests)
-
 module _ (lab : LabValue) where
-  number_small : (st : State) → IsHall lab st → st.world.number < 2 ^ 64
-  number_small st is = grind (arith, nat_tests, number_few, place-is)
-
-  asker_there : (e : Event) → IsEventOf lab.ids lab.roster e → IsPrincipal lab.roster (asker e)
-  asker_there e of = grind (arith, nat_tests)
-
   -- ---- the turns that ask for one event
 
-  bye_answered : (known : Option Who) → greeting lab.roster known requests.Bye ≡ Answered reply.Bye None
-  bye_answered known = grind (arith, nat_tests)
-
   bye_turn : (st : State) → TurnOf lab st (line_for requests.Bye) reply.Bye (with_known st 1 None)
-  bye_turn st = (nothing, sym (plain_so lab st 1 _ requests.Bye _ (request_in-canonical requests.Bye (tt, tt)) (bye_answered (known_on st 1))))
+  bye_turn st =
+      let bye : greeting lab.roster (known_on st 1) requests.Bye ≡ Answered reply.Bye None = grind (arith, nat_tests, known_on st 1) in
+      (nothing, sym (plain_so lab st 1 _ requests.Bye _ (request_in-canonical requests.Bye (tt, tt)) bye))
 
   hello_turn : (st : State) (x : Who) → IsLab lab → IsPrincipal lab.roster x → known_on st 1 ≡ None
       → TurnOf lab st (line_for (hello_of lab x)) (reply.Hello x) (with_known st 1 (Some x))
@@ -62,7 +49,7 @@ module _ (lab : LabValue) where
       let ruled = legal_takes_place lab is.is_lab st.world (record { world = is.world; nodes = sym is.nodes }) st.halted room running e legal in
       let plain = hall_judged lab st 1 _ (asker e) (command_of lab.ids st.world e) known (request_in-canonical _ can) in
       let r = reply_of_done (after st.world e).number (after st.world e).place (done_by st.world e) in
-      (r, granted_done _ _ (done_by st.world e), (nothing, sym (plain ∙ ap (outcome_of st) ruled)))
+      (r, grind (arith, nat_tests, done_by st.world e), (nothing, sym (plain ∙ ap (outcome_of st) ruled)))
 
   -- ---- the turns that ask for each event of a list
 
@@ -82,13 +69,13 @@ module _ (lab : LabValue) where
       let both = and_parts (is_legal lab.roster st.world e) (is_legal_list lab.roster (after st.world e) es) legal in
       let kinds = and_parts (is_grant_or_close e) (list_all is_grant_or_close es) forward in
       let of = legal_member lab.ids lab.roster st.world is.is_lab.roster is.world (sym is.nodes) e both.0 in
-      let there = asker_there e of in
+      let there : IsPrincipal lab.roster (asker e) = grind (arith, nat_tests) in
       let left_is : IsHall lab (left st) = IsHall-known lab st is 0 None tt in
       let hailed_is : IsHall lab (hailed st (asker e)) = IsHall-known lab (left st) left_is 0 (Some (asker e)) there in
       let unknown = get_or-set_same st.greeted 0 None None (omega (arith, is.connections, is.is_lab.some_sessions)) in
       let known = get_or-set_same (left st).greeted 0 (Some (asker e)) None (omega (arith, left_is.connections, is.is_lab.some_sessions)) in
       let here : st.world.place < lab.events = omega (arith, room) in
-      let comes = command_comes lab is.is_lab st.world e (number_small st is) of kinds.0 in
+      let comes = command_comes lab is.is_lab st.world e (grind (arith, nat_tests, number_few, place-is)) of kinds.0 in
       let told = command_turn (hailed st (asker e)) e hailed_is running both.0 here known comes.0 in
       let next_is = IsHall-event lab (hailed st (asker e)) hailed_is e both.0 here in
       let place : (after st.world e).place + length es ≤ lab.events = omega (arith, room, next_place st.world e) in

@@ -23,7 +23,6 @@ mod ListsLemmas
 mod ColumnsLemmas
 mod ZipsLemmas
 mod WeavingLemmas
-mod ByesLemmas
 mod AnswersLemmas
 mod HallStepsLemmas
 mod ConversationsLemmas

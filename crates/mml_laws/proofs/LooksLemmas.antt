@@ -1,17 +1,14 @@
 -- A look shows all that there is to show of its node.
-use Rattle.std.proofs.lemmas.{Grind.common_steps, Bool.cases_eq, Bool.both_ways, Bool.or_left, Bool.or_right, Bool.Decides.nat_tests}
-use Rattle.std.proofs.Common.{◌≡◌, ◌↔◌, ◌⊎◌, ◌<◌, ◌≤◌, ◌+◌, ℕ, zero, suc, Bool, true, false, cond, ◌||◌, List, [], ◌∷◌, map, Option, Some, option_map, inl, inr, refl, arith}
+use Rattle.std.proofs.lemmas.{Grind.common_steps, Bool.cases_eq, Bool.both_ways, Bool.Decides.nat_tests}
+use Rattle.std.proofs.Common.{◌≡◌, ◌↔◌, ◌<◌, ◌≤◌, ◌+◌, ℕ, zero, suc, Bool, true, false, cond, List, [], ◌∷◌, map, Option, Some, option_map, inl, inr, refl, arith}
 use Rattle.std.specs.List.{All, Contains, filter, range_with_len}
 use Rattle.std.proofs.lemmas.List.Elements.{All-nil, All-cons, All-weaker, All-contains, Contains-append_right, Contains-get_or}
 use Rattle.mml_rules.specs.{declared.regs.Regs.Regs, declared.rule.Kind.Kind, declared.rule.Rule.Rule, Configuration.IsLawful, Rules.kind_of, Rules.enabled_kind}
 use Rattle.mml_rules.proofs.{EnabledKindLemmas.guard-kind, EnabledKindLemmas.kind-guard, MeaningLemmas.guard-means}
-use Rattle.mml_lab.specs.{declared.who.Who.Who, Rosters.RosterValue, Rosters.owns}
 use Rattle.mml_board.specs.World.{World, size, configuration}
-use Rattle.mml_policy.specs.{Shown.look_of, Shown.near, Visible.is_teacher}
-use Rattle.mml_policy.proofs.NearLemmas.{shown}
+use Rattle.mml_policy.{specs.Shown.look_of, specs.Shown.near, proofs.NearLemmas.shown}
 use Rattle.mml_stable.specs.Listed.{Rises}
 use Rattle.mml_laws.specs.Looks.{IsLinkedWith, IsEnabledKind, IsWholeLook}
-use Rattle.mml_lab.specs.declared.who.Who.TheVariants as who
 
 -- ---- the linked nodes
 
@@ -67,9 +64,3 @@ module _ (w : World) (i : ℕ) where
     pub look_whole : IsWholeLook w i (look_of w i)
     look_whole =
         record { node = refl; at = refl; registers = refl; chosen = chosen_kind _; enabled = enabled; near = near_exact; rising = near_whole.rising }
-
--- ---- to whom a look is shown
-
--- the test whether an asker is the teacher or owns the node means this
-pub owner_or_teacher : (r : RosterValue) (x : Who) (i : ℕ) → ((is_teacher x || owns r x i) ≡ true) ↔ ((x ≡ who.Teacher) ⊎ (owns r x i ≡ true))
-owner_or_teacher r x i = grind (arith, nat_tests, or_left, or_right)

@@ -1,12 +1,12 @@
 -- The marks of a student don't count more closes than the run has. The place of an event is its number in the list of
 -- events, from 1.
-use Rattle.std.proofs.Common.{◌≡◌, ℕ, ◌+◌, ◌<◌, ◌≤◌, Bool, cond, eqb, List, [], ◌∷◌, length, arith}
-use Rattle.std.{specs.Prelude.count_by, specs.List.filter, proofs.lemmas.Bool.cases_eq, proofs.lemmas.Bool.eq-eqb, proofs.lemmas.Bool.ne_eqb, proofs.lemmas.Bool.Decides.nat_tests}
+use Rattle.std.proofs.Common.{◌≡◌, ℕ, ◌+◌, ◌<◌, ◌≤◌, Bool, List, [], ◌∷◌, length, arith}
+use Rattle.std.{specs.Prelude.count_by, specs.List.filter, proofs.lemmas.Bool.Decides.nat_tests}
 use Rattle.mml_rules.specs.{declared.rule.Rule.Rule, Rules.kind_of}
 use Rattle.mml_board.specs.declared.event.Event.{Event}
 use Rattle.mml_convergence.specs.Moves.{is_close}
 use Rattle.mml_tally.specs.{declared.granted_move.Move.Move, Moves.fate_of, Moves.moves_from, Moves.moves, Marks.count_applying_closes, inside.Closes.close_of, inside.Closes.count_new}
-use Rattle.mml_tally.proofs.{CountsLemmas.more, ClosesLemmas.next_close, ClosesLemmas.IsNext, ClosesLemmas.fate_next, ClosesLemmas.closes_counted}
+use Rattle.mml_tally.proofs.{CountsLemmas.more, ClosesLemmas.next_close, ClosesLemmas.fate_next, ClosesLemmas.closes_counted}
 use Rattle.mml_board.specs.declared.event.Event.TheVariants as event
 
 module _ (test : Move → Bool) where
@@ -20,21 +20,15 @@ module _ (test : Move → Bool) where
     most : counted last q es ≤ count_by is_close es
     fewer : last ≡ next_close q es → next_close q es < q + length es → counted last q es + 1 ≤ count_by is_close es
 
-  -- the close that applies a grant is counted, unless it was the last one that was counted; a close that is counted is
-  -- the next close
-  granted : (last q k : ℕ) (es : List Event) → IsNext last (q + 1) es k → AreFew k (q + 1) es
-      → (cond (eqb k last) 0 1 + counted k (q + 1) es ≤ count_by is_close es)
-      × (last ≡ next_close (q + 1) es → next_close (q + 1) es < q + 1 + length es → cond (eqb k last) 0 1 + counted k (q + 1) es + 1 ≤ count_by is_close es)
-  granted last q k es next rest = grind (arith, nat_tests, cases_eq, eq-eqb, ne_eqb)
-
   abbrev move_of : ℕ → ℕ → ℕ → Rule → List Event → Move
   move_of q s i rule es = record { place = q; who = s; node = i; kind = kind_of rule; fate = fate_of i (q + 1) es }
 
   few : (last q : ℕ) (es : List Event) → AreFew last q es
   few last q [] = record { most = omega arith; fewer = λ e lt. absurd (omega (arith, lt)) }
   few last q (event.Grant s i rule ∷ es) =
-      let counts = granted last q _ es (fate_next last i (q + 1) es) (few (close_of last (fate_of i (q + 1) es)) (q + 1) es) in
-      grind (arith, nat_tests, test (move_of q s i rule es), few last (q + 1) es, counts, more is_close (event.Grant s i rule) es)
+      let next = fate_next last i (q + 1) es in
+      let counts = few (close_of last (fate_of i (q + 1) es)) (q + 1) es in
+      grind (arith, nat_tests, test (move_of q s i rule es), few last (q + 1) es, next, counts, more is_close (event.Grant s i rule) es)
   few last q (e ∷ es) = grind (arith, nat_tests, few last (q + 1) es, more is_close e es)
 
 pub closes_of_run : (test : Move → Bool) (es : List Event) → count_applying_closes (length es) (filter test (moves es)) ≤ count_by is_close es

@@ -3,17 +3,15 @@ use Rattle.std.proofs.Common.{◌≡◌, ◌≤◌, ◌+◌, ℕ, Bool, true, fa
 use Rattle.std.{specs.List.slice_get, proofs.lemmas.Bool.and_parts, proofs.lemmas.Bool.Decides.nat_tests}
 use mathlib.Core.List.{IsPrefix}
 use Rattle.mml_lab.specs.{declared.who.Who.Who, Labs.LabValue, Labs.IsLab}
-use Rattle.mml_board.specs.declared.{done.Done.Done, event.Event.Event}
+use Rattle.mml_board.{specs.declared.done.Done.Done, specs.declared.event.Event.Event, proofs.EventsLemmas.next_place}
 use Rattle.mml_board.specs.{World.World, World.opening_of, Events.is_legal, Events.after, Runs.is_legal_list, Runs.world_of, Lists.is_legal_in, Lists.world_in}
-use Rattle.mml_board.proofs.EventsLemmas.{next_place}
 use Rattle.mml_policy.specs.declared.{command.Command.Command, ruling.Ruling.TheVariants.Granted}
 use Rattle.mml_journal.specs.EventLines.{event_line}
 use Rattle.mml_audit.proofs.AuditMeaningLemmas.{IsReached, reached_next, reached_first}
 use Rattle.mml_codec.specs.{declared.reply.Reply.Reply, declared.request.Request.TheVariants.Do, Lines.request_in, Rulings.reply_of_done}
 use Rattle.mml_engine.specs.Named.{NamesLast}
 use Rattle.mml_window.specs.Rulings.{ruling_while}
-use Rattle.mml_laws.specs.Told.{IsToldAt}
-use Rattle.mml_laws.proofs.{JournalsLemmas.lines, JournalsLemmas.lines_next, JournalsLemmas.line, RuledLemmas.ruled_granted}
+use Rattle.mml_laws.{specs.Told.IsToldAt, proofs.JournalsLemmas.lines, proofs.JournalsLemmas.lines_next, proofs.JournalsLemmas.line, proofs.RuledLemmas.ruled_granted}
 use Rattle.mml_window.proofs.ListLemmas as lists
 
 -- ---- the line of an event

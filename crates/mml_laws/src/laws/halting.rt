@@ -24,7 +24,7 @@ ghost use Rattle.mml_laws.specs.Served.{AreServed, NoneHaltedIn};
 /// The first refusal for `journal` halts a house for good. After that refusal, the house's book (its list of events and
 /// its journal) is halted. The book never changes again, and grants nothing. A book halts only by such a refusal, when
 /// a put to its sink fails.
-#[tactic(auto, using(std::proofs::lemmas::Bool::Decides::nat_tests, crate::proofs::HaltingLemmas::halted, crate::proofs::HaltingLemmas::all_stay, crate::proofs::HaltingLemmas::only_journal))]
+#[tactic(auto, using(std::proofs::lemmas::Bool::Decides::nat_tests, crate::proofs::HaltingLemmas::all_stay))]
 pub fn a_house_halts_for_good<S>()
     ensures refused { (lab : LabValue) (failures : S → ℕ) (old new last : BookValue S) (who : Who)
         (command : Command) (acts : List Act) (answers : List Answer) →

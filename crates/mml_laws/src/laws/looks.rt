@@ -24,7 +24,7 @@ ghost use Rattle.mml_laws.specs.Looks.{IsWholeLook};
 /// asks. The look shows all of the node: its registers, the number of the configuration, and the kinds of the chosen
 /// move and of the enabled rule, if there are any. The look also shows exactly the linked nodes with their registers,
 /// in rising order.
-#[tactic(auto, using(std::proofs::lemmas::Bool::Decides::nat_tests, crate::proofs::LooksLemmas::owner_or_teacher, crate::proofs::LooksLemmas::look_whole))]
+#[tactic(auto, using(std::proofs::lemmas::Bool::Decides::nat_tests, std::proofs::lemmas::Bool::or_left, std::proofs::lemmas::Bool::or_right, crate::proofs::LooksLemmas::look_whole))]
 pub fn a_look_is_whole()
     ensures answered { (ids : List ℕ) (r : RosterValue) (limit : ℕ) (is_halted : Bool) (w : World)
         (x : Who) (id : ℕ) (l : Look) →
@@ -38,7 +38,7 @@ pub fn a_look_is_whole()
 /// The reply to a command shows the world in which the command is ruled on. A see shows the node that it names, and
 /// that node's registers. A look shows the node that it names. A see, a look and a report show the number of that
 /// world's configuration.
-#[tactic(auto, using(std::proofs::lemmas::Bool::Decides::nat_tests, crate::proofs::LooksLemmas::owner_or_teacher, mml_policy::proofs::SeenLemmas::see_shows))]
+#[tactic(auto, using(std::proofs::lemmas::Bool::Decides::nat_tests, std::proofs::lemmas::Bool::or_left, std::proofs::lemmas::Bool::or_right, mml_policy::proofs::SeenLemmas::see_shows))]
 pub fn what_is_shown_is_of_the_present()
     ensures see { (ids : List ℕ) (r : RosterValue) (limit : ℕ) (is_halted : Bool) (w : World)
         (x : Who) (id : ℕ) (s : See) → IsLawful (configuration w) →

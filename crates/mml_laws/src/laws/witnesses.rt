@@ -13,7 +13,7 @@ ghost use Rattle.mml_laws.specs.Witnesses.{EndsIn, IsIdle};
 /// witness is found by following the pointers from the link's lower end to the first privileged node whose rule isn't a
 /// seduction. If this way comes to a seduction first, or to a null pointer, the pointers are followed from the higher
 /// end instead. If neither way finds a node, the witness is the lower end, with a seduction.
-#[tactic(auto, using(std::proofs::lemmas::Bool::Decides::nat_tests, crate::proofs::WitnessesLemmas::ends, crate::proofs::WitnessesLemmas::shown, crate::proofs::WitnessesLemmas::idle), unfolding(mml_stable::specs::Walk::certificate))]
+#[tactic(auto, using(std::proofs::lemmas::Bool::Decides::nat_tests, crate::proofs::WitnessesLemmas::walk_there), unfolding(mml_stable::specs::Walk::certificate))]
 pub fn witnesses_are_sought_from_the_lower_end()
     ensures lower { (c : Configuration) (a b x : ℕ) (kind : Kind) → IsLawful c →
         is_open c a b ≡ true → LeadsTo c a x → EndsIn c x kind → certificate c a b ≡ (x, kind) }
