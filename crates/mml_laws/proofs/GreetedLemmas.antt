@@ -4,7 +4,6 @@ use Rattle.std.proofs.Common.{◌≡◌, ◌⊎◌, ℕ, List, Option, None, Som
 use Rattle.std.proofs.lemmas.{List.set-get_or, Bool.Decides.nat_tests}
 use Rattle.mml_lab.specs.{declared.who.Who.Who, Labs.LabValue, Rosters.RosterValue, Rosters.IsRoster, RosterMeaning.IsKnownAs}
 use Rattle.mml_lab.proofs.RosterMeaningLemmas.{principal-nobody}
-use Rattle.mml_board.specs.declared.denial.Denial.{Denial}
 use Rattle.mml_policy.specs.{declared.command.Command.Command, Rulings.ruling}
 use Rattle.mml_codec.specs.declared.{greeting.Greeting.Greeting, greeting.Greeting.TheVariants.Answered, greeting.Greeting.TheVariants.LeftToJudge, request.Request.Request, reply.Reply.Reply}
 use Rattle.mml_codec.specs.{Greetings.admitted, Greetings.greeting, Lines.request_in}
@@ -22,29 +21,19 @@ nobody_greets r name key is none = ap admitted ((principal-nobody r name key is)
 -- ---- in a hall
 
 module _ (lab : LabValue) (st : hall.State) (k : ℕ) where
-  same_known : (x : Option Who) → hall.known_on st k ≡ x → hall.with_known st k x ≡ st
+  -- if x is already known on the connection, the state in which x is known is this state
+  pub same_known : (x : Option Who) → hall.known_on st k ≡ x → hall.with_known st k x ≡ st
   same_known x e = grind (arith, nat_tests, set-get_or)
-
-  -- a denied greeting changes nothing
-  denied_so : (d : Denial) (x : Option Who) → hall.known_on st k ≡ x → hall.settled lab st k (Answered (reply.Deny d) x) ≡ hall.replied st (reply.Deny d)
-  denied_so d x e = λ j. record { reply = reply.Deny d; state = same_known x e j }
 
   module _ (line : List ℕ) where
     pub plain_so : (q : Request) (g : Greeting) → request_in line ≡ Ok q → greeting lab.roster (hall.known_on st k) q ≡ g → hall.plain_turn lab st k line ≡ hall.settled lab st k g
     unfolding hall.plain_turn
     plain_so q g asked e = ap (hall.answer_to lab st k) asked ∙ ap (hall.settled lab st k) e
 
-    told_so : (d : Denial) (out : hall.Outcome) → hall.plain_turn lab st k line ≡ hall.replied st (reply.Deny d) → hall.Turn lab st k line out → IsTold st (reply.Deny d) out
-    told_so d out plain fact = grind (arith, nat_tests)
-
     pub hall_again : (out : hall.Outcome) (x : Who) (name key : List ℕ) → hall.known_on st k ≡ Some x → request_in line ≡ Ok (requests.Hello name key)
         → hall.Turn lab st k line out → IsTold st (reply.Deny denial.Greeted) out
-    hall_again out x name key known asked t =
-        told_so denial.Greeted out
-        (plain_so (requests.Hello name key) (Answered (reply.Deny denial.Greeted) (Some x)) asked
-        (ap (λ (y : Option Who). greeting lab.roster y (requests.Hello name key)) known)
-        ∙ denied_so denial.Greeted (Some x) known)
-        t
+    unfolding hall.plain_turn
+    hall_again out x name key known asked t = grind (arith, nat_tests, same_known (Some x) known)
 
     pub hall_judged : (x : Who) (c : Command) → hall.known_on st k ≡ Some x → request_in line ≡ Ok (requests.Do c)
         → hall.plain_turn lab st k line ≡ hall.outcome_of st (ruling lab.ids lab.roster lab.events st.halted st.world x c)
@@ -52,34 +41,19 @@ module _ (lab : LabValue) (st : hall.State) (k : ℕ) where
 
     pub hall_unknown : (out : hall.Outcome) (c : Command) → hall.known_on st k ≡ None → request_in line ≡ Ok (requests.Do c)
         → hall.Turn lab st k line out → IsTold st (reply.Deny denial.NotGreeted) out
-    hall_unknown out c known asked t =
-        told_so denial.NotGreeted out
-        (plain_so (requests.Do c) (Answered (reply.Deny denial.NotGreeted) None) asked
-        (ap (λ (y : Option Who). greeting lab.roster y (requests.Do c)) known)
-        ∙ denied_so denial.NotGreeted None known)
-        t
+    unfolding hall.plain_turn
+    hall_unknown out c known asked t = grind (arith, nat_tests, same_known None known)
 
 -- ---- in a session
 
 module _ (lab : LabValue) (st next : session.Standing) (line : List ℕ) (r : Reply) where
-  settles_so : (q : Request) (g : Greeting) → request_in line ≡ Ok q → greeting lab.roster st.known q ≡ g → session.Turn lab st line r next
-      → session.Settles lab st g r next ⊎ session.Unread st r next
-  settles_so q g asked e fact = grind (arith, nat_tests)
-
-  denied_in : (d : Denial) (x : Option Who) → st.known ≡ x → session.Settles lab st (Answered (reply.Deny d) x) r next ⊎ session.Unread st r next → IsDenied d st r next
-  denied_in d x known fact = grind (arith, nat_tests)
-
   pub session_again : (x : Who) (name key : List ℕ) → st.known ≡ Some x → request_in line ≡ Ok (requests.Hello name key)
       → session.Turn lab st line r next → IsDenied denial.Greeted st r next
-  session_again x name key known asked t = grind (arith, nat_tests, denied_in, settles_so)
+  session_again x name key known asked t = grind (arith, nat_tests)
 
   pub session_unknown : (c : Command) → st.known ≡ None → request_in line ≡ Ok (requests.Do c) → session.Turn lab st line r next → IsDenied denial.NotGreeted st r next
-  session_unknown c known asked t = grind (arith, nat_tests, denied_in, settles_so)
-
-  judged_in : (x : Who) (c : Command) → st.known ≡ Some x → session.Settles lab st (LeftToJudge x c) r next ⊎ session.Unread st r next
-      → ((next.known ≡ Some x) × session.Told lab st.window x c r next.window) ⊎ session.Unread st r next
-  judged_in x c known fact = grind (arith, nat_tests)
+  session_unknown c known asked t = grind (arith, nat_tests)
 
   pub session_judged : (x : Who) (c : Command) → st.known ≡ Some x → request_in line ≡ Ok (requests.Do c) → session.Turn lab st line r next
       → ((next.known ≡ Some x) × session.Told lab st.window x c r next.window) ⊎ session.Unread st r next
-  session_judged x c known asked t = grind (arith, nat_tests, judged_in, settles_so)
+  session_judged x c known asked t = grind (arith, nat_tests)

@@ -1,6 +1,5 @@
 -- The line of an event has the words that `words_of` lists for the event.
-use Rattle.std.proofs.lemmas.Bool.Decides.{nat_tests}
-use Rattle.std.proofs.Common.{◌≡◌, ℕ, Bool, List, ◌∷◌, decimal, Option, option_map, arith}
+use Rattle.std.proofs.{lemmas.Bool.Decides.nat_tests, Common.◌≡◌, Common.ℕ, Common.Bool, Common.List, Common.◌∷◌, Common.decimal, Common.Option, Common.option_map, Common.arith}
 use Rattle.mml_ids.specs.Pieces.{truth_text}
 use Rattle.mml_rules.specs.declared.rule.Rule.{Rule}
 use Rattle.mml_lab.specs.Rosters.{RosterValue}

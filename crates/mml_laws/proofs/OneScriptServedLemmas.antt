@@ -1,8 +1,6 @@
 -- A server is a house in which each connection has one session. What these sessions answered was said in a house.
-use Rattle.std.proofs.lemmas.Bool.Decides.{nat_tests}
+use Rattle.std.{proofs.lemmas.Bool.Decides.nat_tests, proofs.lemmas.List.Elements.All-head, proofs.lemmas.List.Elements.All-tail, specs.List.AllByRecursion}
 use Rattle.std.proofs.Common.{◌≡◌, ℕ, List, [], ◌∷◌, length, replicate, All, false, Option, refl, arith}
-use Rattle.std.proofs.lemmas.List.{Elements.All-head, Elements.All-tail}
-use Rattle.std.specs.List.{AllByRecursion}
 use Rattle.mml_lab.specs.Labs.{LabValue, IsLab}
 use Rattle.mml_window.specs.{declared.log.Log.Log, Windows.WindowValue, Windows.window}
 use Rattle.mml_window.proofs.PrefixLemmas.{prefix_nil}
@@ -20,18 +18,7 @@ module _ (lab : LabValue) where
         → AreHeard lab [] (answers_of lab remaining contents cs ss ws e) ws
     heard_served [] [] [] e = tt
     heard_served (c ∷ cs) (s ∷ ss) (w ∷ ws) e = (
-      (
-        w,
-        record {
-          end = s.end;
-          input = remaining c.reader;
-          left = remaining s.connection.reader;
-          wrote = contents c.writer;
-          wrote' = contents s.connection.writer;
-          says = record { ended = e.0.1; all = refl };
-        },
-        refl,
-      ),
+      (w, record { end = s.end; input = _; left = _; wrote = _; wrote' = _; says = record { ended = e.0.1; all = refl } }, refl),
       heard_served cs ss ws e.1,
     )
     heard_served _ _ _ e = absurd e

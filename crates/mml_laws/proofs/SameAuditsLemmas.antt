@@ -1,14 +1,11 @@
 -- If two labs agree in everything that a journal names, and allow the same number of events, each audit has the same
 -- result in both. A world is the state of a run after some events: its network and its chosen moves.
-use Rattle.std.proofs.lemmas.Bool.Decides.{nat_tests}
-use Rattle.std.proofs.Common.{◌≡◌, ◌∙◌, ℕ, ◌≤◌, Bool, false, List, [], ◌∷◌, length, Result, Ok, inl, inr, refl, ap, sym, arith}
-use Rattle.std.{proofs.lemmas.Bool.cases_lt, proofs.lemmas.Bool.false_from_ne_true, specs.Result.is_ok}
-use Rattle.mml_ids.specs.Gives.{◌>>=◌, ◌>>◌}
-use Rattle.mml_lab.specs.{declared.who.Who.Who, Rosters.RosterValue, Rosters.IsRoster, Rosters.owns, Labs.LabValue, Labs.IsLab}
+use Rattle.std.proofs.{lemmas.Bool.Decides.nat_tests, Common.◌≡◌, Common.ℕ, Common.Bool, Common.List, Common.[], Common.◌∷◌, Common.refl, Common.ap, Common.arith}
+use Rattle.std.{proofs.lemmas.Bool.cases_Bool, specs.Result.is_ok}
+use Rattle.mml_lab.specs.{declared.who.Who.Who, Rosters.owns, Labs.LabValue, Labs.IsLab}
 use Rattle.mml_lab.proofs.RosterMeaningLemmas.{owner_there}
-use Rattle.mml_board.specs.{declared.event.Event.Event, World.World, Events.is_legal, Events.after, Clauses.check, Clauses.asker, Clauses.act_of}
-use Rattle.mml_audit.specs.declared.auditing.AuditFault.{AuditFault}
-use Rattle.mml_audit.specs.Audit.{event_in, after_line, after_lines, audited}
+use Rattle.mml_board.specs.{declared.event.Event.Event, World.World, Events.is_legal, Clauses.check, Clauses.asker, Clauses.act_of}
+use Rattle.mml_audit.specs.{Audit.event_in, Audit.after_lines, Audit.audited}
 use Rattle.mml_record.proofs.RiseLemmas.{owned_within}
 use Rattle.mml_lab_file.specs.Sameness.{IsSameLab}
 use Rattle.mml_laws.proofs.SameLabsLemmas.{said_alike, networks_alike}
@@ -16,19 +13,13 @@ use Rattle.mml_lab.specs.declared.who.Who.TheVariants as who
 
 module _ (a b : LabValue) (la : IsLab a) (lb : IsLab b) (is : IsSameLab a b) where
   student_owns : (s i : ℕ) → owns a.roster (who.Student s) i ≡ owns b.roster (who.Student s) i
-  student_owns s i = elim (cases_lt i (length a.ids)) [
-    | inl node ↦ elim (cases_lt s (length a.roster.students)) [
-      | inl student ↦ (is.nodes i node).owners s student
-      | inr none ↦ nobody a.roster la.roster none ∙ sym (nobody b.roster lb.roster (omega (arith, none, is.names.1)))
-    ]
-    | inr past ↦ nowhere a.roster (omega (arith, past, la.owned)) ∙ sym (nowhere b.roster (let same = ap (λ (ids : List ℕ). length ids) is.ids in omega (arith, past, lb.owned, same)))
-  ]
-    where
-      nobody : (r : RosterValue) → IsRoster r → length r.students ≤ s → owns r (who.Student s) i ≡ false
-      nobody r roster none = false_from_ne_true _ (λ own. absurd (omega (arith, none, owner_there r s i roster own)))
-
-      nowhere : (r : RosterValue) → length r.owners ≤ i → owns r (who.Student s) i ≡ false
-      nowhere r past = false_from_ne_true _ (λ own. absurd (omega (arith, past, owned_within r (who.Student s) i own)))
+  student_owns s i =
+      let a_there = owner_there a.roster s i la.roster in
+      let b_there = owner_there b.roster s i lb.roster in
+      let a_within = owned_within a.roster (who.Student s) i in
+      let b_within = owned_within b.roster (who.Student s) i in
+      let both = cases_Bool (owns a.roster (who.Student s) i) in
+      grind (arith, nat_tests, a_there, b_there, a_within, b_within, is.nodes i, both, cases_Bool (owns b.roster (who.Student s) i))
 
   each_owns : (x : Who) (i : ℕ) → owns a.roster x i ≡ owns b.roster x i
   each_owns x i = grind (arith, nat_tests, student_owns)
@@ -48,9 +39,7 @@ module _ (a b : LabValue) (la : IsLab a) (lb : IsLab b) (is : IsSameLab a b) whe
 
     lines_alike : (lines : List (List ℕ)) (w : World) → after_lines a w lines ≡ after_lines b w lines
     lines_alike [] w = refl
-    lines_alike (line ∷ lines) w =
-        ap (λ (r : Result Event AuditFault). (r >>= (λ e. Ok (after w e))) >>= (λ next. after_lines a next lines)) (event_alike w line)
-        ∙ (λ t. after_line b w line >>= (λ next. lines_alike lines next t))
+    lines_alike (line ∷ lines) w = grind (arith, nat_tests, event_alike w line, event_in b w line, lines_alike lines)
 
     -- bytes pass the audit in both labs and lead to the same world, or have the same error
     pub audits_alike : (bytes : List ℕ) → audited a bytes ≡ audited b bytes

@@ -1,21 +1,16 @@
 -- Two labs that agree in everything that a journal names. A world is the state of a run after some events: its network
 -- and its chosen moves.
 use Rattle.std.proofs.lemmas.Bool.Decides.{nat_tests}
-use Rattle.std.proofs.Common.{◌≡◌, ◌∙◌, ℕ, suc, ◌+◌, ◌<◌, ◌≤◌, cond, not, Bool, false, List, [], ◌∷◌, length, slice_index_or, Option, Result, Ok, ok_or, inl, inr, refl, ap, sym}
-use Rattle.std.proofs.Common.{arith, bytes_eq}
+use Rattle.std.proofs.Common.{◌≡◌, ◌∙◌, ℕ, suc, ◌<◌, ◌≤◌, not, Bool, false, List, [], ◌∷◌, length, slice_index_or, inl, inr, refl, ap, sym, arith}
 use Rattle.std.{specs.List.prefix_len, proofs.lemmas.List.same_lists, proofs.lemmas.List.get_or_default, proofs.lemmas.Bool.cases_lt, proofs.lemmas.Bool.false_from_ne_true}
 use Rattle.mml_ids.specs.inside.WordsLemmas.{same_ranks}
 use Rattle.mml_rules.specs.Network.{Network, IsNetwork, neighbours_at, no_regs}
 use Rattle.mml_lab.specs.{declared.who.Who.Who, Labs.LabValue, Labs.IsLab}
 use Rattle.mml_lab.specs.Rosters.{Account, RosterValue, IsPrincipal, name_of, owns, has_name, no_account, student_named}
 use Rattle.mml_board.specs.{declared.event.Event.Event, World.opening_of, Runs.world_of, Lists.world_in}
-use Rattle.mml_journal.specs.{declared.journal_fault.JournalFault.JournalFault, EventWords.EventWords, EventWords.LineWords, EventWords.line_of}
-use Rattle.mml_journal.specs.EventLines.{said_by, event_line, event_named, IsEventOf}
+use Rattle.mml_journal.specs.{EventWords.EventWords, EventWords.line_of, EventLines.said_by, EventLines.event_line, EventLines.event_named, EventLines.IsEventOf}
 use Rattle.mml_lab_file.specs.Sameness.{IsSameLab}
 use Rattle.std.specs.FinSet as set
-use Rattle.mml_ids.specs.Gives as steps
-use Rattle.mml_lab.specs.declared.who.Who.TheVariants as who
-use Rattle.mml_journal.specs.declared.journal_fault.JournalFault.TheVariants as fault
 
 -- ---- lines
 
@@ -31,9 +26,7 @@ names_alike name [] [] long same = refl
 names_alike name [] (y ∷ ys) long same = grind arith
 names_alike name (x ∷ xs) [] long same = grind arith
 names_alike name (x ∷ xs) (y ∷ ys) long same =
-    ap (λ (n : List ℕ). cond {A = ℕ} (not (bytes_eq name n)) (1 + prefix_len (lacks name) xs) 0) (same 0 (omega arith))
-    ∙ ap (λ (m : ℕ). cond {A = ℕ} (not (bytes_eq name y.name)) (1 + m) 0)
-    (names_alike name xs ys (omega (arith, long)) (λ k below. same (suc k) (omega (arith, below))))
+    cc (same 0 (omega arith), names_alike name xs ys (omega (arith, long)) (λ k below. same (suc k) (omega (arith, below))))
 
 students_alike : (a b : LabValue) → IsSameLab a b → (name : List ℕ) → student_named a.roster name ≡ student_named b.roster name
 students_alike a b is name = grind (arith, nat_tests, names_alike name a.roster.students b.roster.students is.names.1 is.names.2)
@@ -45,29 +38,18 @@ module _ (ids : List ℕ) (r q : RosterValue) (alike : (name : List ℕ) → stu
   unfolding event_named
   named_alike w = grind (arith, nat_tests)
 
-  -- the event of a line, given the words that were found in the line
-  abbrev said_in : RosterValue → Option LineWords → Result (ℕ × ℕ × Event) JournalFault
-  said_in r line = steps.◌>>=◌ (ok_or line fault.Shape) (λ l. steps.◌>>=◌ (ok_or (event_named ids r l.event) fault.Unknown) (λ e. Ok (l.place, l.before, e)))
-
-  in_alike : (line : Option LineWords) → said_in r line ≡ said_in q line
-  in_alike line = grind (arith, nat_tests, named_alike)
-
 -- each line is read as the same event, or has the same error
 pub said_alike : (a b : LabValue) (bytes : List ℕ) → IsSameLab a b → said_by a.ids a.roster bytes ≡ said_by b.ids b.roster bytes
-said_alike a b bytes is = ap (λ ids. said_by ids a.roster bytes) is.ids ∙ in_alike b.ids a.roster b.roster (students_alike a b is) (line_of bytes)
+said_alike a b bytes is = grind (arith, nat_tests, named_alike a.ids a.roster b.roster (students_alike a b is), line_of bytes)
 
 -- each participant has the same name in both labs
 pub name_alike : (a b : LabValue) (w : Who) → IsSameLab a b → IsPrincipal a.roster w → name_of a.roster w ≡ name_of b.roster w
 name_alike a b w is here = grind (arith, nat_tests)
 
-roster_line : (ids : List ℕ) (a b : LabValue) (place before : ℕ) (e : Event) → IsSameLab a b → IsEventOf a.ids a.roster e
-    → event_line ids a.roster place before e ≡ event_line ids b.roster place before e
-roster_line ids a b place before e is of = grind (arith, nat_tests)
-
 -- each event has the same line in both labs
 pub line_alike : (a b : LabValue) (place before : ℕ) (e : Event) → IsSameLab a b → IsEventOf a.ids a.roster e
     → event_line a.ids a.roster place before e ≡ event_line b.ids b.roster place before e
-line_alike a b place before e is of = roster_line a.ids a b place before e is of ∙ ap (λ ids. event_line ids b.roster place before e) is.ids
+line_alike a b place before e is of = grind (arith, nat_tests)
 
 -- ---- worlds
 
@@ -106,5 +88,4 @@ world_alike a b l la lb is = ap (λ n. world_of (opening_of n) l) (networks_alik
 
 -- each participant owns the same nodes in both labs
 pub owner_alike : (a b : LabValue) (w : Who) (i : ℕ) → IsSameLab a b → IsPrincipal a.roster w → i < length a.ids → owns a.roster w i ≡ owns b.roster w i
-owner_alike a b who.Teacher i is here node = refl
-owner_alike a b (who.Student s) i is here node = (is.nodes i node).owners s here
+owner_alike a b w i is here node = grind (arith, nat_tests, is.nodes i node)

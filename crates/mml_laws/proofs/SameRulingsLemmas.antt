@@ -1,14 +1,11 @@
 -- If two labs agree in everything that a journal names, each command has the same ruling in both, and each hello the
 -- same reply line.
-use Rattle.std.proofs.lemmas.Bool.Decides.{nat_tests}
-use Rattle.std.proofs.Common.{◌≡◌, ℕ, Bool, ◌&&◌, ◌||◌, List, [], Ok, option_map, refl, arith}
+use Rattle.std.proofs.{lemmas.Bool.Decides.nat_tests, Common.◌≡◌, Common.ℕ, Common.Bool, Common.◌&&◌, Common.◌||◌, Common.List, Common.Ok, Common.option_map, Common.refl, Common.arith}
 use Rattle.mml_ids.specs.{Gives.◌>>=◌, Gives.◌>>◌, Gives.need, Ids.rank_in, Search.some_below}
-use Rattle.mml_rules.specs.Configuration.{Configuration}
 use Rattle.mml_lab.specs.{declared.who.Who.Who, Rosters.RosterValue, Rosters.IsPrincipal, Rosters.owns, Labs.LabValue, Labs.IsLab}
-use Rattle.mml_board.specs.{World.World, World.configuration, Clauses.check, Clauses.is_teacher}
-use Rattle.mml_board.specs.declared.denial.Denial.{TheVariants.Hidden, TheVariants.NotOwner}
+use Rattle.mml_board.specs.{World.World, World.configuration, Clauses.check, Clauses.is_teacher, declared.denial.Denial.TheVariants.Hidden, declared.denial.Denial.TheVariants.NotOwner}
 use Rattle.mml_policy.specs.declared.{command.Command.Command, verdict.Leave.TheVariants.See, verdict.Leave.TheVariants.Look}
-use Rattle.mml_policy.specs.{Clauses.node, Clauses.rule_of, Visible.is_visible, Visible.owns_neighbour, Verdicts.granted, Verdicts.clauses, Rulings.ruling}
+use Rattle.mml_policy.specs.{Clauses.node, Clauses.rule_of, Visible.owns_neighbour, Verdicts.granted, Verdicts.clauses, Rulings.ruling}
 use Rattle.mml_codec.specs.{Replies.reply_line}
 use Rattle.mml_lab_file.specs.Sameness.{IsSameLab}
 use Rattle.mml_laws.proofs.{SameLabsLemmas.name_alike, SameAuditsLemmas.owns_alike}
@@ -18,12 +15,11 @@ use Rattle.mml_codec.specs.declared.reply.Reply.TheVariants as replies
 
 -- the decision on a command depends on who owns which node, and on nothing else in a roster
 module _ (ids : List ℕ) (r q : RosterValue) (same : owns r ≡ owns q) (w : World) (x : Who) where
-  visible_alike : (c : Configuration) (i : ℕ) → is_visible r c x i ≡ is_visible q c x i
-  unfolding owns_neighbour
-  visible_alike c i = λ t. is_teacher x || same t x i || some_below c.size (λ j. c.linked i j && same t x j)
-
   clauses_alike : (k : Command) → clauses ids r w x k ≡ clauses ids q w x k
-  clauses_alike (command.See id) = λ t. node ids id Hidden >>= (λ (i : ℕ). need (visible_alike (configuration w) i t) Hidden >> Ok (See i))
+  unfolding owns_neighbour
+  clauses_alike (command.See id) =
+      let c = configuration w in
+      λ t. node ids id Hidden >>= (λ (i : ℕ). need (is_teacher x || same t x i || some_below c.size (λ j. c.linked i j && same t x j)) Hidden >> Ok (See i))
   clauses_alike (command.Look id) = λ t. node ids id NotOwner >>= (λ (i : ℕ). need (is_teacher x || same t x i) NotOwner >> Ok (Look i))
   clauses_alike command.Report = refl
   clauses_alike (command.Move id asked at) = λ t. granted (check (same t) w x (act.Move (rank_in ids id) (rule_of ids asked) at))

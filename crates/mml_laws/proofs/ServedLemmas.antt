@@ -1,10 +1,8 @@
 -- What the replies of a house say of its windows: the places (numbers of events) that a window was granted, and the
 -- refusals `journal` that it has counted. A window is what the sessions of a seat have seen of the house's list of
 -- events.
-use Rattle.std.proofs.lemmas.Bool.Decides.{nat_tests}
-use Rattle.std.proofs.lemmas.{List.Elements.All-head, List.Elements.All-tail}
+use Rattle.std.{proofs.lemmas.Bool.Decides.nat_tests, proofs.lemmas.List.Elements.All-head, proofs.lemmas.List.Elements.All-tail, specs.List.AllByRecursion}
 use Rattle.std.proofs.Common.{◌≡◌, ℕ, List, [], ◌∷◌, ◌++◌, length, map, flat_map, All, refl, sym, ap, ◌∙◌, subst, append_assoc, append-nil, arith}
-use Rattle.std.specs.List.{AllByRecursion}
 use Rattle.mml_lab.specs.Labs.{LabValue}
 use Rattle.mml_board.specs.declared.event.Event.{Event}
 use Rattle.mml_lines.specs.Runs.{Chain}
@@ -23,8 +21,7 @@ module _ {A X B : Type 0} (Step : X → A → A → Type 0) (value : X → B) wh
       → (a b : A) (xs : List X) → Chain Step a xs b → lists b ≡ lists a ++ flat_map of (map value xs)
   chain_appends lists of each a b [] c = ap lists c ∙ sym (append-nil (lists a))
   chain_appends lists of each a b (x ∷ xs) c =
-      chain_appends lists of each c.0 b xs c.2 ∙ ap (λ l. l ++ flat_map of (map value xs)) (each x a c.0 c.1)
-      ∙ append_assoc (lists a) (of (value x)) (flat_map of (map value xs))
+      cc (chain_appends lists of each c.0 b xs c.2, each x a c.0 c.1, append_assoc (lists a) (of (value x)) (flat_map of (map value xs)))
 
   -- if P holds before a step, and Q of its value, whenever P holds after it, the same is true of a chain
   chain_back : (P : A → Type 0) (Q : B → Type 0) → ((x : X) (a b : A) → Step x a b → P b → P a × Q (value x))
@@ -47,10 +44,10 @@ module _ (lab : LabValue) where
       → told_of windows ≡ named_by (map replies_of seats)
   house_places begun [] [] heard = refl
   house_places begun (seat ∷ seats) (w ∷ ws) heard =
-      ap (λ (l : List ℕ). l ++ told_of ws)
-      (chain_appends (IsConversation lab) (map (λ a. a.reply)) (λ (w : WindowValue). w.places) (flat_map places_in) conversation_places
-      (window begun []) w seat heard.0)
-      ∙ ap (λ (l : List ℕ). named_in (replies_of seat) ++ l) (house_places begun seats ws heard.1)
+      let one : w.places ≡ named_in (replies_of seat) =
+      chain_appends (IsConversation lab) (map (λ a. a.reply)) (λ (w : WindowValue). w.places) (flat_map places_in) conversation_places
+      (window begun []) w seat heard.0 in
+      cc (one, house_places begun seats ws heard.1)
   house_places begun _ _ heard = absurd heard
 
 -- the places of windows are those that the replies of their sessions name
@@ -66,15 +63,12 @@ all_mapped P f [] all = tt
 all_mapped P f (x ∷ xs) all = (all.0, all_mapped P f xs all.1)
 
 module _ (lab : LabValue) where
-  turn_unhalted : (a : Answered) (st next : Standing) → TurnAt lab a st next → next.window.halts ≡ 0 → (st.window.halts ≡ 0) × IsUnhalted a.reply
-  turn_unhalted a st next t none = grind (arith, nat_tests, turn_halts)
-
   conversation_unhalted : (said : List Answered) (old new : WindowValue) → IsConversation lab said old new → new.halts ≡ 0
       → (old.halts ≡ 0) × AllByRecursion IsUnhalted (map (λ a. a.reply) said)
   conversation_unhalted said old new c none =
       let s = conversation_says lab old new said c in
-      chain_back (TurnAt lab) (λ a. a.reply) (λ (st : Standing). st.window.halts ≡ 0) IsUnhalted turn_unhalted (nobody_known old) s.end said s.turns
-      (ap (λ (w : WindowValue). w.halts) s.stands ∙ none)
+      chain_back (TurnAt lab) (λ a. a.reply) (λ (st : Standing). st.window.halts ≡ 0) IsUnhalted (λ a st next t none. grind (arith, nat_tests, turn_halts))
+      (nobody_known old) s.end said s.turns (ap (λ (w : WindowValue). w.halts) s.stands ∙ none)
 
   -- if no window has counted a refusal `journal`, no reply of their sessions is one
   pub house_written : (begun : List Event) (seats : List (List (List Answered))) (windows : List WindowValue) → AreHeard lab begun seats windows
