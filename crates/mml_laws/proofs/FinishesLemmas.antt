@@ -5,7 +5,7 @@ use Rattle.std.proofs.Common.{◌≡◌, ℕ, ◌<◌, ◌≤◌, ◌+◌, true,
 use Rattle.mml_rules.specs.Matching.{IsStable}
 use Rattle.mml_lab.specs.{declared.who.Who.Who, Labs.LabValue, Labs.IsLab, Labs.link_count, Rosters.IsPrincipal, Rosters.name_of, Rosters.key_of, RosterMeaning.IsKnownAs}
 use Rattle.mml_lab_file.{specs.Reading.lab_of, proofs.LabMeaningLemmas.lawful, proofs.OwnersLemmas.one_or_two}
-use Rattle.mml_board.specs.{declared.event.Event.Event, World.World, World.configuration, Events.is_legal, Events.after, Events.done_by, Runs.is_legal_list, Runs.world_of}
+use Rattle.mml_board.specs.{declared.event.Event.Event, World.configuration, Events.is_legal, Events.after, Events.done_by, Runs.is_legal_list, Runs.world_of}
 use Rattle.mml_board.proofs.EventsLemmas.{next_place}
 use Rattle.mml_policy.specs.Asking.{asker, command_of}
 use Rattle.mml_journal.{proofs.MemberLemmas.legal_member}
@@ -14,17 +14,12 @@ use Rattle.mml_codec.specs.{declared.reply.Reply.Reply, declared.greeting.Greeti
 use Rattle.mml_codec.proofs.{CanonicalLemmas.request_in-canonical, GreetingsLemmas.hello_is_granted}
 use Rattle.mml_hall.specs.{Turns.State, Turns.TurnOf, Turns.nothing, Turns.known_on, Turns.with_known, Turns.with_event, Turns.opening, Turns.outcome_of, Halls.IsHall}
 use Rattle.mml_hall.proofs.HallsLemmas.{IsHall-opening, IsHall-event, IsHall-known, place-is}
+use Rattle.mml_record.proofs.CountLemmas.{number_list}
 use Rattle.mml_laws.specs.Finishes.{line_for, hello_of, is_granted, FinishesByAsking}
 use Rattle.mml_laws.proofs.{GreetedLemmas.plain_so, GreetedLemmas.hall_judged, EndsLemmas.legal_takes_place, ChoicesLemmas.opening as world_opening, RestWithinLemmas.events_few}
 use Rattle.mml_laws.proofs.AskingLinesLemmas.{bye_comes, hello_comes, command_comes}
 use Rattle.mml_codec.specs.declared.reply.Reply.TheVariants as reply
 use Rattle.mml_codec.specs.declared.request.Request.TheVariants as requests
-
--- ---- the number of a world's configuration is at most the number of its events
-
-number_few : (w : World) (es : List Event) → w.number ≤ w.place → (world_of w es).number ≤ (world_of w es).place
-number_few w [] few = few
-number_few w (e ∷ es) few = number_few (after w e) es (grind (arith, nat_tests))
 
 module _ (lab : LabValue) where
   -- ---- the turns that ask for one event
@@ -75,7 +70,7 @@ module _ (lab : LabValue) where
       let unknown = get_or-set_same st.greeted 0 None None (omega (arith, is.connections, is.is_lab.some_sessions)) in
       let known = get_or-set_same (left st).greeted 0 (Some (asker e)) None (omega (arith, left_is.connections, is.is_lab.some_sessions)) in
       let here : st.world.place < lab.events = omega (arith, room) in
-      let comes = command_comes lab is.is_lab st.world e (grind (arith, nat_tests, number_few, place-is)) of kinds.0 in
+      let comes = command_comes lab is.is_lab st.world e (grind (arith, nat_tests, number_list, place-is)) of kinds.0 in
       let told = command_turn (hailed st (asker e)) e hailed_is running both.0 here known comes.0 in
       let next_is = IsHall-event lab (hailed st (asker e)) hailed_is e both.0 here in
       let place : (after st.world e).place + length es ≤ lab.events = omega (arith, room, next_place st.world e) in
