@@ -57,7 +57,7 @@ impl Outgoing {
     /// first. A line of more than `OUTGOING_BYTES` bytes never fits, so it is written too, after them. Flushes nothing.
     /// Returns `WriteFault` if a write fails or takes nothing. The fault's `written` counts the written bytes of the
     /// first line that isn't written whole.
-    #[tactic(auto, using(crate::proofs::SendingLemmas::breaks_before))]
+    #[tactic(auto, using(crate::proofs::SendingLemmas::breaks_before, crate::proofs::SendingLemmas::put_last))]
     pub fn put<W: Write>(
         &mut self,
         front: &[u8],
@@ -124,6 +124,7 @@ impl Outgoing {
     // `OUTGOING_BYTES` suffices, and removed if the buffer then has too many bytes. The function is inlined, so that
     // the loop over a script's lines makes fewer calls.
     #[inline(always)]
+    #[tactic(auto, using(crate::proofs::SendingLemmas::one_more_line))]
     pub fn append<L: LineRest>(&mut self, front: &[u8], rest: &L) -> bool
         requires { L.may_tell rest.now }
         ensures lines { self.new ≡ (if result
@@ -147,6 +148,7 @@ impl Outgoing {
 
     /// Appends a line, `front` and then `rest`, to the buffer if there is room for it. Returns whether it was appended.
     /// Writes and allocates nothing, so `unwrap` succeeds.
+    #[tactic(auto, using(crate::proofs::SendingLemmas::one_more_line))]
     fn hold(&mut self, front: &[u8], rest: &[u8]) -> bool
         ensures { self.new ≡ (if result then self.old ++ (front.now ++ rest.now) ∷ [] else self.old) }
     {
