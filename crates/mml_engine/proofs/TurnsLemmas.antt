@@ -1,7 +1,7 @@
 -- The effect of a turn, for any engine. A turn is a line with its reply, and with the states before and after the line.
 -- The place of an event is its number in the list of events, from 1.
 use Rattle.std.proofs.lemmas.Bool.Decides.{nat_tests}
-use Rattle.std.proofs.Common.{◌≡◌, ◌⊎◌, ◌∙◌, ℕ, true, List, Option, Some, None, Result, Ok, Err, refl, ap, inr, arith}
+use Rattle.std.proofs.Common.{◌≡◌, ◌⊎◌, ◌∙◌, ℕ, true, List, Option, Some, None, Result, Ok, Err, refl, ap, inl, inr, arith}
 use Rattle.mml_lab.specs.{declared.who.Who.Who, Rosters.RosterValue}
 use Rattle.mml_board.specs.declared.denial.Denial.{Denial}
 use Rattle.mml_policy.specs.declared.command.Command.{Command}
@@ -45,17 +45,14 @@ module _ {E V : Type 0} (tells : E → V → Who → Command → Reply → E →
   abbrev pub Does : Type 0
   Does = IsQuiet e v r e' v' ⊎ IsTold tells known line e v r known' e' v'
 
-  at_once : (q : Reply) → is_short q ≡ true → place_in q ≡ None → r ≡ q → e' ≡ e → v' ≡ v → Does
-  at_once q short none is same still = grind (arith, nat_tests)
-
   asked_does : (asked : Result Request LineFault) → request_in line ≡ asked → Asked tells roster known e v asked r known' e' v' → Does
-  asked_does (Err fault) is h = at_once _ refl refl h.0 h.1.1 h.1.2
+  asked_does (Err fault) is h = inl (grind (arith, nat_tests))
   asked_does (Ok q) is h =
-      by_greeting (λ g. Settles tells known e v g r known' e' v' → Does)
-      (λ who s. at_once (replies.Hello who) refl refl s.0 s.2 s.3) (λ s. at_once replies.Bye refl refl s.0 s.2 s.3) roster known q
-      (λ d s. at_once (replies.Deny d) refl refl s.0 s.2 s.3)
+      by_greeting (λ g. Settles tells known e v g r known' e' v' → Does) (λ who s. inl (grind (arith, nat_tests))) (λ s. inl (grind (arith, nat_tests)))
+      roster known q (λ d s. inl (grind (arith, nat_tests)))
       (λ who c by asked s. inr (record { who = who; command = c; by = by; asked = is ∙ ap Ok asked; still = s.0; told = s.1 })) h
 
   -- in each turn, the line is answered without the engine, or by it
   pub turn_does : Turn tells roster known e v line r known' e' v' → Does
-  turn_does h0 = grind (arith, nat_tests, asked_does, at_once)
+  turn_does (inl h) = asked_does (request_in line) refl h
+  turn_does (inr h) = inl (grind (arith, nat_tests))
