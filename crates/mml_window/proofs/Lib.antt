@@ -1,12 +1,9 @@
 pub mod PrefixLemmas
 pub mod ListLemmas
 pub mod RuleLemmas
-pub mod ClimbingLemmas
-pub mod ViewLemmas
+pub mod TallyLemmas
 pub mod ActLemmas
-pub mod JournalLemmas
 pub mod BookLemmas
 pub mod AnswerLemmas
 pub mod AboutLemmas
-pub mod TallyLemmas
 pub mod ShareLemmas

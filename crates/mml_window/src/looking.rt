@@ -47,6 +47,7 @@ impl<H: House> Reader<H> {
 
 /// Puts a new reader, which has seen nothing yet, into `reader`, if there is none in it and a slot of `press` is free.
 /// Otherwise does nothing. `press` is the writer of the published data.
+#[tactic(auto, using(crate::proofs::PrefixLemmas::prefix_nil, atomic_table::proofs::Lists::at_snoc))]
 pub(crate) fn take_slot<H: House>(press: &Press<H>, reader: &mut Option<Reader<H>>)
     ensures { view_by reader.new ≡ view_by reader.old }
 {
@@ -59,6 +60,7 @@ pub(crate) fn take_slot<H: House>(press: &Press<H>, reader: &mut Option<Reader<H
 
 /// Takes the reader out of `reader`, and makes it enter the published copy, which can be read until `leave` is called.
 /// Returns `None` if there is no reader, or if the writer is gone; `reader` then stays as it was.
+#[tactic(auto, using(crate::proofs::RuleLemmas::enters, crate::proofs::ListLemmas::nodes_in))]
 pub(crate) fn enter<H: House>(reader: &mut Option<Reader<H>>) -> Option<Entered<H>>
     ensures saw { IfSome result (λ reading.
         Saw H.lab (view_by reader.old) reading.part.value (view reading.place)) }

@@ -144,7 +144,7 @@ impl<H: House> Window<H> {
     /// must be the last one that `press` has published, and keeps its place (number). After a refusal, keeps the
     /// reason; any other answer removes an earlier reason. `grant` must have counted the granted event if there is one,
     /// and is then merged into the window's share of granted events.
-    #[tactic(auto, using(crate::proofs::ClimbingLemmas::climbs_count))]
+    #[tactic(auto, using(crate::proofs::TallyLemmas::climbs_count))]
     pub(crate) fn keep<R: Wait>(
         &mut self,
         rt: &R,
@@ -333,6 +333,7 @@ impl<H: House> Window<H> {
     }
 
     /// Returns how many places (event numbers) the window's session was granted.
+    #[tactic(auto, using(crate::proofs::TallyLemmas::climbs_count))]
     pub(crate) fn place_count(&self) -> u64
         ensures count { result ≡ length self.now.places }
         ensures few { result ≤ MAX_EVENTS }
@@ -343,6 +344,7 @@ impl<H: House> Window<H> {
     /// Returns whether the window's place (event number) at the index `cursor` is `place`. Returns `false` if there is
     /// none at this index. At the end of a house, the places of a window are counted off in order, and those before the
     /// cursor are counted off already.
+    #[tactic(auto, using(crate::proofs::TallyLemmas::climbs_count, std::proofs::lemmas::List::drop_more))]
     pub(crate) fn is_next(&self, cursor: usize, place: u64) -> bool
         ensures next { IsTrue result → (drop cursor self.now.places
             ≡ place ∷ drop (cursor + 1) self.now.places) × (cursor < MAX_EVENTS) }
@@ -356,6 +358,7 @@ impl<H: House> Window<H> {
 
     /// Returns whether the index `cursor` is past the last of the window's places (event numbers). Then all of them are
     /// counted off, as `is_next` explains.
+    #[tactic(auto, using(crate::proofs::TallyLemmas::at_end))]
     pub(crate) fn is_counted_off(&self, cursor: usize) -> bool
         ensures { MatchBool result (drop cursor self.now.places ≡ [])
             ((p : ℕ) × (0 < times p (drop cursor self.now.places))) }

@@ -1,6 +1,4 @@
-use Rattle.std.proofs.Common.{Bool, subst, ◌∙◌}
-use mathlib.Core.List.{IsPrefix}
-use Rattle.mml_window.specs.declared.seeing.View.{View}
+use Rattle.std.proofs.Common.{◌∙◌}
 use Rattle.mml_window.proofs.PrefixLemmas.{prefix_trans}
 use Rattle.mml_window.proofs.looking.look_for.Goals as goal
 
@@ -8,12 +6,8 @@ pub returns-then-is_found : goal.returns-then-is_found
 returns-then-is_found g c =
     let x = c.in-Some-enter.reading.part.value in
     let f = c.in-Some-enter.ensures.saw in
-    let says = subst (λ (b : Bool). g.F.Fn.post c.args.is_sought (c.get.result, tt) b) c.if-is_found.true c.is_sought-is_found.ensures in (
+    let says = rw c.if-is_found.true at c.is_sought-is_found.ensures in (
       x,
       record { shown = c.get.result; shows = c.get.ensures; says = record { met = says } },
-      record {
-        view = c.leave.ensures ∙ f.view;
-        begins = prefix_trans _ _ _ c.looks.invariant (subst (λ (v : View). IsPrefix v.seen x.events.items) c.take_slot.ensures f.begins);
-        published = f.published;
-      },
+      record { view = c.leave.ensures ∙ f.view; begins = prefix_trans _ _ _ c.looks.invariant (rw c.take_slot.ensures at f.begins); published = f.published },
     )
