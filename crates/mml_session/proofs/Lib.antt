@@ -1,12 +1,7 @@
 pub mod EngineLemmas
-pub mod TellingLemmas
 pub mod GreetingLemmas
-pub mod MemoryLemmas
+pub mod TellingLemmas
 pub mod RecordLemmas
-pub mod LongerLemmas
-pub mod ShortestLemmas
-pub mod HoldingLemmas
 pub mod EndingLemmas
-pub mod ServingLemmas
 pub mod TalkLemmas
 pub mod SeenLemmas

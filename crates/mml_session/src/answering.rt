@@ -28,6 +28,7 @@ use std::sync::Wait;
 /// costly copy. `known` is the participant of the lab who has said hello on this connection, if anybody has; it is
 /// updated if the line changes that. `scratch` is working memory for reading the line. Returns `Closed`, and puts no
 /// reply, if a known participant asks for a view of a window that shows nothing any more.
+#[tactic(auto, using(crate::proofs::EngineLemmas::turn_over, std::proofs::lemmas::Bool::Decides::nat_tests))]
 pub(crate) fn answer_into<Rt: Wait, S: Sink + Drop, H: House>(
     setting: &Setting<'_, Rt, S, H>,
     window: &mut Window<H>,
@@ -86,6 +87,7 @@ impl<'a, Rt: Wait, S: Sink + Drop, H: House> Engine for Setting<'a, Rt, S, H> {
     // Puts the reply to a view (a `see`, `look` or `report`) for which `who` asks into `reply`. The session's window,
     // `at`, answers it from the published events, without the desk's lock. Returns `Closed` if the window shows nothing
     // any more.
+    #[tactic(auto, using(crate::proofs::EngineLemmas::seen_told))]
     fn view(
         &mut self,
         at: &mut Window<H>,
@@ -102,6 +104,7 @@ impl<'a, Rt: Wait, S: Sink + Drop, H: House> Engine for Setting<'a, Rt, S, H> {
 
     // Passes an act of `who` (a command that asks for an event) to the desk, with the session's window `at`. Puts the
     // desk's answer into `reply`.
+    #[tactic(auto, using(crate::proofs::EngineLemmas::seen_told, crate::proofs::TellingLemmas::granted_told, crate::proofs::TellingLemmas::denied_told, crate::proofs::TellingLemmas::refused_told, std::proofs::lemmas::Bool::Decides::nat_tests))]
     fn act(
         &mut self,
         at: &mut Window<H>,

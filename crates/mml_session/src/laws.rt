@@ -21,6 +21,7 @@ ghost use Rattle.mml_window.specs.Windows.{WindowValue};
 
 /// The list of places (numbers of granted events) that a window keeps grows by those that the replies name, in order,
 /// and by no others.
+#[tactic(auto, using(crate::proofs::TalkLemmas::turn_places, crate::proofs::TalkLemmas::run_places))]
 pub fn places_are_those_told()
     ensures turn { (lab : LabValue) (st after : Standing) (t : LineTurn lab st after) →
         after.window.places ≡ st.window.places ++ places_in t.reply }
@@ -30,6 +31,7 @@ pub fn places_are_those_told()
 
 /// A window counts the replies that refuse an act because the journal is halted (`journal`), and no other replies. For
 /// each of them, `spare` grows by how many more events the lab allows after those that the window has then seen.
+#[tactic(auto, using(crate::proofs::TalkLemmas::turn_halts, crate::proofs::TalkLemmas::run_halts, crate::proofs::TalkLemmas::turn_spares))]
 pub fn refusals_for_the_journal_are_counted()
     ensures turn { (lab : LabValue) (st after : Standing) (t : LineTurn lab st after) →
         after.window.halts ≡ st.window.halts + halts_in t.reply }
@@ -42,6 +44,7 @@ pub fn refusals_for_the_journal_are_counted()
 
 /// What a session's window has seen only grows. The events that it had seen before one or several turns are the first
 /// of those that it has seen afterwards.
+#[tactic(auto, using(crate::proofs::TalkLemmas::talk_seen))]
 pub fn seen_goes_on()
     ensures turn { (lab : LabValue) (st after : Standing) (t : LineTurn lab st after) →
         IsPrefix st.window.seen after.window.seen }
@@ -50,6 +53,7 @@ pub fn seen_goes_on()
 {}
 
 /// In a talk (the answered lines of one session, with their replies) there are as many replies as lines.
+#[tactic(auto, using(mml_lines::proofs::RunsLemmas::as_many))]
 pub fn one_reply_each()
     ensures { (lab : LabValue) (st : Standing) (t : Talk lab st) →
         length t.replies ≡ length t.lines }
@@ -57,6 +61,7 @@ pub fn one_reply_each()
 
 /// If the lines of a talk were answered, and other bytes (`rest`) follow them, the lines of the whole input begin with
 /// the answered ones. If no newline is among the other bytes, there are no further lines.
+#[tactic(auto, using(mml_lines::proofs::LinesOfLemmas::lines_first, mml_lines::proofs::LinesOfLemmas::all_lines, crate::proofs::TalkLemmas::each_unbroken))]
 pub fn lines_of_a_talk()
     ensures first { (lab : LabValue) (st : Standing) (t : Talk lab st) (rest : List ℕ) →
         lines_of (bytes_read t ++ rest) ≡ t.lines ++ lines_of rest }

@@ -1,4 +1,4 @@
-use Rattle.mml_session.proofs.HoldingLemmas.{lacks_rest}
+use Rattle.mml_session.proofs.EndingLemmas.{lacks_rest}
 use Rattle.mml_session.proofs.laws.a_broken_session_lacks_its_last_flush.Goals as goal
 
 pub returns-clause-lacks : goal.returns-clause-lacks
