@@ -1,10 +1,5 @@
 pub mod LocalLemmas
 pub mod ScriptLinesLemmas
-pub mod TranscriptsLemmas
 pub mod ScriptsLemmas
-pub mod ServingLemmas
 pub mod HallsLemmas
-pub mod JournalsLemmas
-pub mod ShownLemmas
 pub mod TurnsLemmas
-pub mod HaltsLemmas

@@ -1,9 +1,9 @@
--- What a turn doesn't change, and when the refusal `memory` may replace a reply. A turn computes the reply to one line
--- and the state after it. A turn is plain if memory doesn't run out and no write fails. The place of an event is its
--- number in the list of events, from 1. A participant is known on a connection from a granted hello to a bye. A world
--- is the state of a run after some events: its network and its chosen moves.
+-- What a turn doesn't change, when the journal is halted, and when the refusal `memory` may replace a reply. A turn
+-- computes the reply to one line and the state after it. A turn is plain if memory doesn't run out and no write fails.
+-- The place of an event is its number in the list of events, from 1. A participant is known on a connection from a
+-- granted hello to a bye. A world is the state of a run after some events: its network and its chosen moves.
 use Rattle.std.proofs.lemmas.{Bool.Decides.nat_tests, Bool.or_right, List.get_or-set_other, List.set-get_or}
-use Rattle.std.proofs.Common.{◌≡◌, ◌≢◌, ◌⊎◌, ◌<◌, ◌-◌, ℕ, Bool, true, false, true≢false, not, cond, List, Option, Some, None, Result, Ok, Err, refl, sym, ap, ◌∙◌, arith, subst, inl, inr}
+use Rattle.std.proofs.Common.{◌≡◌, ◌≢◌, ◌⊎◌, ◌<◌, ◌-◌, ℕ, true, false, not, List, Option, Some, None, Result, Ok, sym, ap, arith, subst, rules, inl, refl, Err, inr}
 use Rattle.mml_lab.specs.{declared.who.Who.Who, Labs.LabValue}
 use Rattle.mml_board.specs.{Events.after, declared.event.Event.Event, declared.done.Done.Done}
 use Rattle.mml_board.proofs.EventsLemmas.{next_place}
@@ -13,20 +13,19 @@ use Rattle.mml_codec.specs.{Lines.request_in, Replies.is_short, Replies.place_in
 use Rattle.mml_codec.proofs.RulingsLemmas.{place_of_done, short_done}
 use Rattle.mml_engine.proofs.TurnsLemmas.{by_greeting}
 use Rattle.mml_hall.specs.Turns.{State, Outcome, Mishap, Turn, IsRefusal, GrowsByGrant, is_grant, turn, known_on, with_known, with_event, outcome_of, settled}
-use Rattle.mml_hall.specs.Turns.{answer_to, plain_turn, takes_memory, without_memory, halting, IsKept}
+use Rattle.mml_hall.specs.Turns.{answer_to, plain_turn, takes_memory, without_memory, halting}
 use Rattle.mml_codec.specs.declared.request.Request.TheVariants as requests
+use Rattle.mml_codec.specs.declared.reply.Refused.TheVariants as refused
+use Rattle.mml_codec.specs.declared.reply.Reply.TheVariants as replies
 
 -- ---- all results that a turn can have
-
-pub either_of : (P : Outcome → Type 0) (b : Bool) (one other : Outcome) → P one → P other → P (cond b one other)
-either_of P b one other p q = grind (arith, nat_tests)
 
 module _ (lab : LabValue) (st : State) (k : ℕ) (line : List ℕ) (P : Outcome → Type 0) (plain : P (plain_turn lab st k line)) (memory : P (without_memory st))
     (journal : P (halting st)) where
   -- if `P` is true of the plain outcome and of those with the refusals `memory` and `journal`, it is true of the
   -- outcome of each turn, whatever goes wrong
   pub whatever_befell : (mishap : Mishap) → P (turn mishap lab st k line)
-  whatever_befell mishap = grind (arith, nat_tests, either_of)
+  whatever_befell mishap = grind (arith, nat_tests)
 
   pub by_turn : (out : Outcome) → Turn lab st k line out → P out
   by_turn out (mishap, e) = subst P (sym e) (whatever_befell mishap)
@@ -68,17 +67,7 @@ module _ (lab : LabValue) (st : State) (k : ℕ) where
 
   does_told : (asked : Result Request LineFault) (x : Who) (c : Command) (ruled : Ruling) → ruling lab.ids lab.roster lab.events st.halted st.world x c ≡ ruled
       → known_on st k ≡ Some x → asked ≡ Ok (requests.Do c) → Does asked (outcome_of st ruled)
-  does_told asked x c (Granted f d) e known is = inr (inr (record {
-    who = x;
-    command = c;
-    event = f;
-    done = d;
-    known = known;
-    request = is;
-    ruled = e;
-    reply = refl;
-    state = refl;
-  }))
+  does_told asked x c (Granted f d) e known is = grind (arith, nat_tests)
   does_told asked x c _ e known is = inl (record { state = refl; nameless = refl })
 
   does_answer : (asked : Result Request LineFault) → Does asked (answer_to lab st k asked)
@@ -94,31 +83,25 @@ module _ (lab : LabValue) (st : State) (k : ℕ) where
   unfolding plain_turn
   plain_does line = does_answer (request_in line)
 
--- the reply to a granted event is neither a denial nor a refusal
-granted_not_refused : (at place : ℕ) (d : Done) → IsRefusal (reply_of_done at place d) → ⊥
-granted_not_refused at place d h = grind (arith, nat_tests)
-
 -- ---- what a turn doesn't change
 
-kept : (st after : State) → after ≡ st → IsKept st after
-kept st after e = record { world = ap (λ (x : State). x.world) e; events = ap (λ (x : State). x.events) e; greeted = ap (λ (x : State). x.greeted) e }
-
--- a turn with a denial or a refusal changes neither the world, nor the events, nor who is known
-pub refused_turn : (lab : LabValue) (st : State) (k : ℕ) (line : List ℕ) (out : Outcome) → Turn lab st k line out → IsRefusal out.reply → IsKept st out.state
-refused_turn lab st k line = by_turn lab st k line (λ out. IsRefusal out.reply → IsKept st out.state) plain (λ h. kept st st refl)
-    (λ h. record { world = refl; events = refl; greeted = refl })
-  where
-    plain : IsRefusal (plain_turn lab st k line).reply → IsKept st (plain_turn lab st k line).state
-    plain h = elim (plain_does lab st k line) [
-      | inl idle ↦ kept st _ idle.state
-      | inr (inl greets) ↦ absurd (greets.tells h)
-      | inr (inr grants) ↦ absurd (granted_not_refused _ _ grants.done (subst IsRefusal grants.reply h))
-    ]
+-- the reply to a granted event is neither a denial nor a refusal
+pub granted_not_refused : (at place : ℕ) (d : Done) → IsRefusal (reply_of_done at place d) → ⊥
+granted_not_refused at place d h = grind (arith, nat_tests)
 
 -- a turn on one connection doesn't change who is known on another
 pub others_turn : (lab : LabValue) (st : State) (k j : ℕ) (line : List ℕ) (out : Outcome) → Turn lab st k line out → 0 < k → 0 < j → j ≢ k
     → known_on out.state j ≡ known_on st j
 others_turn lab st k j line out t some some' differ = grind (arith, nat_tests, by_turn, plain_does, get_or-set_other)
+
+-- a plain turn doesn't change whether the journal is halted
+pub plain_halted : (lab : LabValue) (st : State) (k : ℕ) (line : List ℕ) → (plain_turn lab st k line).state.halted ≡ st.halted
+plain_halted lab st k line = grind (arith, nat_tests, plain_does)
+
+-- if the reply of a plain turn is the refusal `journal`, the journal is halted
+pub plain_journal : (lab : LabValue) (st : State) (k : ℕ) (line : List ℕ) → (plain_turn lab st k line).reply ≡ replies.Refuse refused.Journal → st.halted ≡ true
+unfolding plain_turn
+plain_journal lab st k line h = grind (arith, nat_tests, by_greeting, request_in line)
 
 -- ---- replies that aren't short, which are those to a look or a report
 
@@ -128,10 +111,7 @@ long_takes_memory r h = or_right (is_grant r) (not (is_short r)) (ap not h)
 -- if the refusal `memory` is sent in place of a reply that isn't short, the outcome with this refusal is also possible
 pub told_turn : (lab : LabValue) (st : State) (k : ℕ) (line : List ℕ) (out : Outcome) (told : Reply) → Turn lab st k line out → TellsFor out.reply told
     → Turn lab st k line (record { reply = told; state = out.state })
-told_turn lab st k line out told t (inl same) = subst (λ (r : Reply). Turn lab st k line (record { reply = r; state = out.state })) (sym same) t
-told_turn lab st k line out told t (inr want) =
-    by_turn lab st k line (λ out. is_short out.reply ≡ false → Turn lab st k line (record { reply = told; state = out.state }))
-    (grind (arith, nat_tests, plain_does, short_done, long_takes_memory)) (λ long. absurd (true≢false long)) (λ long. absurd (true≢false long)) out t want.0
+told_turn lab st k line out told t tells = search (rules, by_turn, plain_does, short_done, long_takes_memory)
 
 -- ---- the events that turns add
 
@@ -144,30 +124,8 @@ pub record IsQuiet (st : State) (out : Outcome) : Type 0 where
 -- a turn adds no event, or it grants one
 pub turn_does : (lab : LabValue) (st : State) (k : ℕ) (line : List ℕ) (out : Outcome) → Turn lab st k line out
     → IsQuiet st out ⊎ IsGranting lab st k (request_in line) out
-turn_does lab st k line =
-    by_turn lab st k line (λ out. IsQuiet st out ⊎ IsGranting lab st k (request_in line) out) plain
-    (inl (record { nameless = refl; events = refl; world = refl })) (inl (record { nameless = refl; events = refl; world = refl }))
-  where
-    quiet : (r : Reply) (s : State) → place_in r ≡ None → s.events ≡ st.events → s.world ≡ st.world
-        → IsQuiet st (record { reply = r; state = s }) ⊎ IsGranting lab st k (request_in line) (record { reply = r; state = s })
-    quiet r s none events world = inl (record { nameless = none; events = events; world = world })
-
-    plain : IsQuiet st (plain_turn lab st k line) ⊎ IsGranting lab st k (request_in line) (plain_turn lab st k line)
-    plain = elim (plain_does lab st k line) [
-      | inl idle ↦ quiet _ _ idle.nameless (ap (λ (s : State). s.events) idle.state) (ap (λ (s : State). s.world) idle.state)
-      | inr (inl greets) ↦ quiet _ _ greets.nameless (ap (λ (s : State). s.events) greets.state) (ap (λ (s : State). s.world) greets.state)
-      | inr (inr grants) ↦ inr grants
-    ]
+turn_does lab st k line out t = grind (arith, nat_tests, plain_does)
 
 -- a turn whose reply names a place adds the event with this place, and any other turn adds none
 pub growing_turn : (lab : LabValue) (st : State) (k : ℕ) (line : List ℕ) (out : Outcome) → Turn lab st k line out → GrowsByGrant st out
-growing_turn lab st k line out t = elim (turn_does lab st k line out t) [
-  | inl quiet ↦ inl (quiet.events, quiet.world, quiet.nameless)
-  | inr grants ↦ inr (
-    grants.event,
-    ap (λ (s : State). s.events) grants.state,
-    ap (λ (s : State). s.world) grants.state,
-    ap place_in grants.reply ∙ place_of_done (after st.world grants.event).number (after st.world grants.event).place grants.done
-        ∙ ap Some (next_place st.world grants.event),
-  )
-]
+growing_turn lab st k line out t = grind (arith, nat_tests, turn_does lab st k line out t, place_of_done, next_place)

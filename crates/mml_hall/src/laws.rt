@@ -35,12 +35,14 @@ pub fn lines_of_a_transcript()
 {}
 
 /// A transcript has exactly one reply to each of its lines.
+#[tactic(auto, using(mml_lines::proofs::RunsLemmas::as_many))]
 pub fn one_reply_each()
     ensures { (lab : LabValue) (t : Transcript lab) → length t.replies ≡ length t.lines }
 {}
 
 /// A request that is denied or refused doesn't change the world, the events, or who is known on each connection. The
 /// only change that it may make is to halt the journal.
+#[tactic(auto, using(std::proofs::lemmas::Bool::Decides::nat_tests, crate::proofs::TurnsLemmas::plain_does, crate::proofs::TurnsLemmas::granted_not_refused))]
 pub fn refusals_change_nothing()
     ensures { (lab : LabValue) (st : State) (connection : ℕ) (line : List ℕ) (out : Outcome)
         → Turn lab st connection line out → IsRefusal out.reply → IsKept st out.state }
@@ -56,6 +58,7 @@ pub fn events_grow_by_grants()
 /// The journal is halted exactly if the line of a granted event can't be written to its sink. The event then doesn't
 /// happen. Once halted, the journal stays halted. If the reply is the refusal `journal`, the journal is halted
 /// afterwards.
+#[tactic(auto, using(std::proofs::lemmas::Bool::Decides::nat_tests, crate::proofs::TurnsLemmas::plain_halted, crate::proofs::TurnsLemmas::plain_journal))]
 pub fn failed_puts_halt_for_good()
     ensures failed { (lab : LabValue) (st : State) (connection : ℕ) (line : List ℕ)
         → is_grant (plain_turn lab st connection line).reply ≡ true

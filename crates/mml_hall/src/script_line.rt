@@ -44,6 +44,7 @@ pub fn read_script_line(line: &[u8], sessions: u8) -> Option<ScriptLine<'_>>
 /// Returns the connection and the request of a script line. Returns `None` if `line` doesn't have the form of a script
 /// line, the lab doesn't have the connection (`sessions` is how many it has), or the request is too long.
 #[inline(always)]
+#[tactic(auto, using(crate::proofs::ScriptLinesLemmas::script_line_begins))]
 fn parts_of(line: &[u8], sessions: u8) -> Option<(u8, &[u8])>
     requires { IsWithinLimit MAX_SCRIPT_LINE line.now }
     ensures { MatchOption result

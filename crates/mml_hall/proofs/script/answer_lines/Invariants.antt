@@ -8,7 +8,7 @@ use Rattle.mml_hall.proofs.script.answer_lines.Given as goal
 
 abbrev pub invariant-loop-hall : goal.invariant-loop-hall
 invariant-loop-hall g l = record {
-  so_far : AnsweredSoFar g.S.Sink.contents g.S.Sink.failures l.fn.hall.lab l.fn.hall.sink l.hall l.answered (g.R.Read.remaining l.fn.reader)
+  so_far : AnsweredSoFar g.S.Sink.contents g.S.Sink.failures l.fn.hall l.hall l.answered (g.R.Read.remaining l.fn.reader)
       (prepend_known l.buffers.lines.unread (g.R.Read.remaining l.reader)) l.buffers.outgoing (g.W.Write.contents l.fn.writer) (g.W.Write.contents l.writer);
   going : l.buffers.lines.ending ≡ None;
   limit : l.buffers.lines.limit ≡ MAX_SCRIPT_LINE;
