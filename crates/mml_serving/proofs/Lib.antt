@@ -1,4 +1,3 @@
 pub mod NumbersLemmas
-pub mod ArrivingLemmas
 mod ServingLemmas
 mod EndingsLemmas

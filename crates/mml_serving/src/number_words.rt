@@ -26,6 +26,7 @@ pub fn read_connections(text: &str) -> Option<NonZeroU8>
 }
 
 /// Reads a number from 1 to `most` in decimal, without sign or leading zero. Returns `None` for any other text.
+#[tactic(auto, using(crate::proofs::NumbersLemmas::read_numbers))]
 fn number_of(text: &str, most: u64) -> Option<u64>
     ensures { Reads (λ n. n) most text.now result }
 {

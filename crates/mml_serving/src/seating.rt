@@ -141,6 +141,7 @@ impl<'s, Y: ServerTypes + 's, H: House + Send + Sync + 's> Shared<'s, Y, H> {
     /// a window taken from `windows`. The windows must be fresh, and enough for all connections. Returns the threads'
     /// handles in the order in which the connections came. Returns `Memory` if memory runs out or no thread can be
     /// started, and `Accept` if accepting fails for another reason.
+    #[tactic(auto, using(crate::proofs::ServingLemmas::one_more))]
     fn start_each<E, A: Arrivals<Y::Reader, Y::Writer>>(
         &self,
         scope: &Scope<'s, E>,

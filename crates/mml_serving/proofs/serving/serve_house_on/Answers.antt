@@ -5,14 +5,5 @@ pub returns-in-Err-clause-badly : goal.returns-in-Err-clause-badly
 returns-in-Err-clause-badly g c = inl c.in-Err.ensures.badly
 
 pub returns-else-all_had_memory-clause-badly : goal.returns-else-all_had_memory-clause-badly
-returns-else-all_had_memory-clause-badly g c = inr (
-  refl,
-  record {
-    sessions = c.in-Ok.house.sessions.items;
-    log = c.in-Ok.house.log;
-    serves = c.in-Ok.ensures.served;
-    unhalted = c.in-Ok.ensures.unhalted;
-    last = c.in-Ok.ensures.last;
-    lacked = grind arith;
-  },
-)
+returns-else-all_had_memory-clause-badly g c =
+    let ok = c.in-Ok.ensures in inr (refl, record { sessions = _; log = _; serves = ok.served; unhalted = ok.unhalted; last = ok.last; lacked = grind arith })
