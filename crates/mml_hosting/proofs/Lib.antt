@@ -1,3 +1,2 @@
-pub mod SeatLemmas
 pub mod PortLemmas
 pub mod HouseLemmas

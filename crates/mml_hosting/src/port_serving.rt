@@ -318,6 +318,7 @@ impl<'s, Y: ClassTypes + 's, H: Begun + Send + Sync + 's> Shared<'s, Y, H> {
     /// `next_free` returns, as `serve_apart` does. If no thread can be made, the session is over when this returns, and
     /// its seat is free again. If `next_free` returns `None`, turns the connection away. `cut_off` is the means to end
     /// the connection from the port's thread. Both lists must have room for all seats.
+    #[tactic(auto, using(std::proofs::lemmas::Bool::Decides::nat_tests, std::proofs::lemmas::List::Sums::sum_by_push))]
     fn take_in<E>(
         &self,
         scope: &Scope<'s, E>,
@@ -356,6 +357,7 @@ impl<'s, Y: ClassTypes + 's, H: Begun + Send + Sync + 's> Shared<'s, Y, H> {
     /// Accepts connections from `arrivals`, and serves them in `seats`, until no more are to be served. Then cuts off
     /// those that are still served, waits for their threads, and returns all seats. Returns `Memory`, and serves
     /// nobody, if memory runs out at the beginning.
+    #[tactic(auto, using(crate::proofs::PortLemmas::nothing_yet, crate::proofs::PortLemmas::nobody_came))]
     fn serve_until_over<E, A: Accept<Y::Reader, Y::Writer, Y::CutOff> + Drop>(
         &self,
         scope: &Scope<'s, E>,

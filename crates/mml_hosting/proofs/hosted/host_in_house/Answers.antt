@@ -1,36 +1,30 @@
-use Rattle.std.{proofs.Common.◌≡◌, proofs.Common.List, proofs.Common.[], proofs.Common.length, proofs.Common.ap, proofs.Common.subst, proofs.lemmas.Result.IfErr-weaker, specs.Prelude.All}
+use Rattle.std.{proofs.Common.◌≡◌, proofs.Common.List, proofs.Common.[], proofs.Common.ap, proofs.Common.subst, proofs.lemmas.Result.IfErr-weaker, specs.Prelude.All}
 use Rattle.mml_board.specs.declared.event.Event.{Event}
 use Rattle.mml_window.specs.Windows.{window}
-use Rattle.mml_hosting.specs.Seats.{terms}
 use Rattle.mml_hosting.proofs.HouseLemmas.{hosted, unhosted, all_fresh}
 use Rattle.mml_hosting.proofs.hosted.host_in_house.Goals as goal
 
 pub returns-clause-hosts : goal.returns-clause-hosts
 returns-clause-hosts g c =
-    let t = terms g.H.House.lab g.H.Begun.begun g.H.Begun.given g.Y.Reader.Read.remaining g.Y.Writer.Write.contents g.Y.Observer.Observer.kept g.Y.Kept.Keep.shows in
     let seats = c.in-Ok-seats_of_house.ensures in
     let served = c.in-Ok-serve_both.ensures in
     let ended = c.end_house.ensures in
-    hosted t g.Y.Sink.Sink.contents _ _ (length c.args.observers.others.items) c.in-Ok-seats_of_house.desk_seats.items c.in-Ok-seats_of_house.seats.items
-    c.in-Ok-serve_both.desks.items c.in-Ok-serve_both.others.items c.requires.as_many seats.one seats.desk seats.others seats.unused.0 seats.unused.1
-    served.desk served.others c.end_house.result (rw c.requires.first at ended.kept) ended.dismissed ended.desk ended.others
+    hosted _ _ _ c.requires.as_many seats.one seats.desk seats.others seats.unused.0 seats.unused.1 served.desk served.others c.end_house.result
+    (rw c.requires.first at ended.kept) ended.dismissed ended.desk ended.others
 
 pub returns-clause-early : goal.returns-clause-early
 returns-clause-early g c =
-    let t = terms g.H.House.lab g.H.Begun.begun g.H.Begun.given g.Y.Reader.Read.remaining g.Y.Writer.Write.contents g.Y.Observer.Observer.kept g.Y.Kept.Keep.shows in
     let seats = c.in-Ok-seats_of_house.ensures in
     let served = c.in-Ok-serve_both.ensures in
     IfErr-weaker c.end_house.result _ _
-    (unhosted t g.Y.Sink.Sink.contents _ _ (length c.args.observers.others.items) c.in-Ok-seats_of_house.desk_seats.items c.in-Ok-seats_of_house.seats.items
-    c.in-Ok-serve_both.desks.items c.in-Ok-serve_both.others.items c.requires.as_many seats.one seats.desk seats.others seats.unused.0 seats.unused.1
-    served.desk served.others)
+    (unhosted _ g.Y.Sink.Sink.contents _ c.requires.as_many seats.one seats.desk seats.others seats.unused.0 seats.unused.1 served.desk served.others)
     (rw c.requires.first at c.end_house.ensures.without)
 
 pub serve_both-requires-clause-desk_seats : goal.serve_both-requires-clause-desk_seats
-serve_both-requires-clause-desk_seats g c κs within = all_fresh _ c.in-Ok-seats_of_house.desk_seats.items c.in-Ok-seats_of_house.ensures.unused.0
+serve_both-requires-clause-desk_seats g c κs within = all_fresh _ _ c.in-Ok-seats_of_house.ensures.unused.0
 
 pub serve_both-requires-clause-seats : goal.serve_both-requires-clause-seats
-serve_both-requires-clause-seats g c κs within = all_fresh _ c.in-Ok-seats_of_house.seats.items c.in-Ok-seats_of_house.ensures.unused.1
+serve_both-requires-clause-seats g c κs within = all_fresh _ _ c.in-Ok-seats_of_house.ensures.unused.1
 
 pub seats_of_house-requires-clause-windows : goal.seats_of_house-requires-clause-windows
 seats_of_house-requires-clause-windows g c =
