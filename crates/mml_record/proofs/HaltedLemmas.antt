@@ -1,43 +1,61 @@
 -- After the refusal `journal`, a record grants nothing until an entry says that anything may be missing. If no refusal
--- in the record is outlived, no other seat was granted anything either.
-use Rattle.std.proofs.lemmas.Bool.{false≢true, Decides.nat_tests}
-use Rattle.std.proofs.Common.{◌≡◌, ℕ, Bool, true, false, ◌||◌, nat_lt, List, [], ◌∷◌, ◌++◌, length, sym, ap, ◌∙◌, Option, None, arith}
+-- in the record is outlived, no other seat was granted anything either. A life of the server is the time from its start
+-- to its end. A record shows the end of a life by an entry which says that anything may be missing.
+use Rattle.std.{specs.Prelude.IfSome, specs.List.AllByRecursion, proofs.lemmas.Bool.Decides.nat_tests}
+use Rattle.std.proofs.Common.{◌≡◌, ℕ, ◌≤◌, true, false, List, [], ◌∷◌, ◌++◌, length, refl, ap, append-nil, Option, None, Some, arith}
 use Rattle.mml_lab.specs.{declared.who.Who.Who, Labs.LabValue}
 use Rattle.mml_board.specs.declared.event.Event.{Event}
-use Rattle.mml_codec.specs.{declared.reply.Reply.Reply, Replies.place_in, Replies.reply_line}
-use Rattle.mml_session.specs.Turns.{is_bye, places_in, halts_in}
-use Rattle.mml_record.specs.{declared.kept_entry.Entry.Entry, declared.stage.Stage.Stage, Losses.are_cut, Halts.outlived}
-use Rattle.mml_record.specs.Certified.{phase_after, stage_at, stage_after, may_grant, is_journal, seen_after, GoesOn, first_stage}
-use Rattle.mml_record.proofs.{FallLemmas.never_fall, OutlivedLemmas.first_of_life, OutlivedLemmas.none_at_end, OutlivedLemmas.none_at_cut, OutlivedLemmas.falls_to, OutlivedLemmas.said_within}
-use Rattle.mml_record.proofs.RecordLemmas.{journal_line}
+use Rattle.mml_codec.specs.{Replies.place_in, Replies.reply_line}
+use Rattle.mml_session.specs.Turns.{is_bye}
+use Rattle.mml_record.specs.{declared.kept_entry.Entry.Entry, declared.stage.Stage.Stage, Entries.seen_by, Entries.NeverFall, Losses.are_cut, Halts.first_halt, Halts.outlived}
+use Rattle.mml_record.specs.Certified.{phase_after, stage_after, is_journal, seen_after, GoesOn, first_stage}
+use Rattle.mml_record.proofs.{FallLemmas.never_fall, CountedLemmas.journal_line, CountedLemmas.journal_or_not, CountedLemmas.refused_at, CountedLemmas.refused_most}
 use Rattle.mml_codec.specs.declared.reply.Refused.TheVariants as refused
 use Rattle.mml_codec.specs.declared.reply.Reply.TheVariants as replies
 use Rattle.mml_record.specs.declared.kept_entry.Entry.TheVariants as entry
-use Rattle.mml_record.specs.declared.stage.Phase.TheVariants as phases
 
-grants_none : (halted : Bool) (r : Reply) → halted ≡ true → may_grant halted (place_in r) ≡ true → places_in r ≡ []
-grants_none halted r is h = grind (arith, nat_tests, false≢true)
+-- ---- how long a life of the server is
 
-still_halted : (halted b : Bool) → halted ≡ true → (halted || b) ≡ true
-still_halted halted b is = grind (arith, nat_tests)
+-- how many events there were when a life ended, as far as the record shows: those that the next entry names which says
+-- that anything may be missing, or all n if there is none
+abbrev life : ℕ → List Entry → ℕ
+life n [] = n
+life n (entry.Unrecorded p ∷ es) = p
+life n (_ ∷ es) = life n es
 
-halts_none : (r : Reply) → nat_lt 0 (halts_in r) ≡ true → places_in r ≡ []
-halts_none r h = grind (arith, nat_tests)
+life_on : (n : ℕ) (es fs : List Entry) → are_cut es ≡ false → life n (es ++ fs) ≡ life n fs
+life_on n [] fs uncut = refl
+life_on n (e ∷ es) fs uncut = grind (arith, nat_tests, life_on n es fs)
+
+module _ (lab : LabValue) (n : ℕ) where
+  life_is : (q p least : ℕ) (es : List Entry) → q ≤ p → p ≤ least → p ≤ n → NeverFall least es → outlived lab n (Some q) es ≡ None → life n es ≡ p
+  life_is q p least [] before le within falls none = grind (arith, nat_tests)
+  life_is q p least (e ∷ es) before le within falls none = grind (arith, nat_tests, falls.0, falls.1, life_is q p (seen_by e) es)
+
+  -- the first refusal in the same life, after one more entry
+  abbrev first_after : Option ℕ → Entry → Option ℕ
+  first_after at (entry.Said p line out) = first_halt at p (is_journal lab out)
+  first_after at (entry.Unrecorded p) = None
+  first_after at _ = at
+
+  -- the entries come after `least` events and the first refusal `at` of their life; no refusal is outlived
+  abbrev Lives : Option ℕ → ℕ → List Entry → Type 0
+  Lives at least es = IfSome at (λ q. q ≤ least) × NeverFall least es × AllByRecursion (λ p. p ≤ n) (refused_at lab es) × (outlived lab n at es ≡ None)
+
+  -- if a refusal isn't outlived, its life ends after as many events as had been seen at it
+  ends_there : (front back : List Entry) (at : Option ℕ) (least p : ℕ) (line out : List ℕ) → is_journal lab out ≡ true
+      → Lives at least (front ++ entry.Said p line out ∷ back) → life n back ≡ p
+  ends_there [] back None least p line out named h = grind (arith, nat_tests, life_is p p p back)
+  ends_there [] back (Some q) least p line out named h = grind (arith, nat_tests, life_is q p p back)
+  ends_there (e ∷ es) back at least p line out named h =
+      ends_there es back (first_after at e) (seen_by e) p line out named (grind (arith, nat_tests, at, h))
 
 module _ (lab : LabValue) (l : List Event) where
-  granted_none : (known : Option Who) (stage : Stage) (least : ℕ) (es : List Entry) (ps : List ℕ) → stage.is_halted ≡ true → are_cut es ≡ false
-      → GoesOn lab l known stage least es ps → ps ≡ []
-  granted_none known stage least [] ps halted uncut h = h
-  granted_none known stage least (entry.Said p line out ∷ es) ps halted uncut h =
-      let none = grants_none stage.is_halted h.3 halted h.8.2 in
-      let next = stage_after lab stage (phase_after (is_bye h.3)) out in
-      let rest = granted_none h.4 next (seen_after p (place_in h.3)) es h.5 (still_halted stage.is_halted (is_journal lab out) halted) uncut h.10 in
-      h.9 ∙ (λ t. none t ++ rest t)
-  granted_none known stage least (entry.Left p ∷ es) ps halted uncut h = granted_none None (stage_at phases.Open stage.is_halted) p es ps halted uncut h.2
-  granted_none known stage least (entry.Unrecorded p ∷ es) ps halted uncut h = absurd (false≢true (sym uncut))
-  granted_none known stage least (entry.Paused p ∷ es) ps halted uncut h = granted_none known (stage_at phases.Paused stage.is_halted) p es ps halted uncut h.2
-  granted_none known stage least (entry.Resumed p missed ∷ es) ps halted uncut h =
-      granted_none known (stage_at phases.Resuming stage.is_halted) p es ps halted uncut h.4
+  granted_none : (known : Option Who) (stage : Stage) (least : ℕ) (es : List Entry) (ps : List ℕ) → GoesOn lab l known stage least es ps
+      → stage.is_halted ≡ true → are_cut es ≡ false → ps ≡ []
+  granted_none known stage least [] ps h halted uncut = h
+  granted_none known stage least (e ∷ es) ps h halted uncut =
+      let rest = λ (x : Option Who) (s : Stage) (n : ℕ) (qs : List ℕ). granted_none x s n es qs in grind (arith, nat_tests, rest)
 
   abbrev journal : List ℕ
   journal = reply_line lab.ids lab.roster (replies.Refuse refused.Journal)
@@ -48,44 +66,30 @@ module _ (lab : LabValue) (l : List Event) where
   pub front_grants : (known : Option Who) (stage : Stage) (least : ℕ) (front back : List Entry) (p : ℕ) (line ps : List ℕ) → are_cut back ≡ false
       → GoesOn lab l known stage least (front ++ entry.Said p line journal ∷ back) ps → GoesOn lab l known stage least front ps
   front_grants known stage least [] back p line ps uncut h =
-      let halts : nat_lt 0 (halts_in h.3) ≡ true = sym (journal_line lab h.3) ∙ (ap (is_journal lab) (sym h.7) ∙ named) in
-      let none = halts_none h.3 halts in
-      let next = stage_after lab stage (phase_after (is_bye h.3)) journal in
-      let halted : next.is_halted ≡ true = ap (λ b. stage.is_halted || b) named ∙ or_true stage.is_halted in
-      let rest = granted_none h.4 next (seen_after p (place_in h.3)) back h.5 halted uncut h.10 in
-      h.9 ∙ (λ t. none t ++ rest t)
-    where
-      or_true : (b : Bool) → (b || true) ≡ true
-      or_true b = grind (arith, nat_tests)
+      grind (arith, nat_tests, stage_after lab stage (phase_after (is_bye h.3)) journal, granted_none, named, journal_line, journal_or_not)
   front_grants known stage least (entry.Said q asked out ∷ es) back p line ps uncut h =
       let next = stage_after lab stage (phase_after (is_bye h.3)) out in
       let rest = front_grants h.4 next (seen_after q (place_in h.3)) es back p line h.5 uncut h.10 in
       (h.0, h.1, h.2, h.3, h.4, h.5, h.6, h.7, h.8, h.9, rest)
-  front_grants known stage least (entry.Left q ∷ es) back p line ps uncut h =
-      (h.0, h.1, front_grants None (stage_at phases.Open stage.is_halted) q es back p line ps uncut h.2)
-  front_grants known stage least (entry.Unrecorded q ∷ es) back p line ps uncut h =
-      (h.0, h.1, front_grants None (stage_at phases.Cut false) q es back p line ps uncut h.2)
-  front_grants known stage least (entry.Paused q ∷ es) back p line ps uncut h =
-      (h.0, h.1, front_grants known (stage_at phases.Paused stage.is_halted) q es back p line ps uncut h.2)
-  front_grants known stage least (entry.Resumed q missed ∷ es) back p line ps uncut h =
-      (h.0, h.1, h.2, h.3, front_grants known (stage_at phases.Resuming stage.is_halted) q es back p line ps uncut h.4)
+  front_grants known stage least (e ∷ es) back p line ps uncut h =
+      let rest = λ (x : Option Who) (s : Stage) (n : ℕ) (qs : List ℕ). front_grants x s n es back p line qs uncut in
+      grind (arith, nat_tests, rest)
+
+  ends_at : (front back : List Entry) (p : ℕ) (line ps : List ℕ) → GoesOn lab l None first_stage 0 (front ++ entry.Said p line journal ∷ back) ps
+      → outlived lab (length l) None (front ++ entry.Said p line journal ∷ back) ≡ None → life (length l) back ≡ p
+  ends_at front back p line ps h none =
+      let es = front ++ entry.Said p line journal ∷ back in
+      let lives : Lives lab (length l) None 0 es = (tt, never_fall lab l None first_stage 0 es ps h, refused_most lab l None first_stage 0 es ps h, none) in
+      ends_there lab (length l) front back None 0 p line journal named lives
 
   -- if no refusal of the record is outlived, no events follow one up to the end of the server's life
   pub ends_with : (front back : List Entry) (p : ℕ) (line ps : List ℕ) → GoesOn lab l None first_stage 0 (front ++ entry.Said p line journal ∷ back) ps
       → outlived lab (length l) None (front ++ entry.Said p line journal ∷ back) ≡ None → are_cut back ≡ false → p ≡ length l
   ends_with front back p line ps h none uncut =
-      let falls = never_fall lab l None first_stage 0 (front ++ entry.Said p line journal ∷ back) ps h in
-      let first = first_of_life lab (length l) 0 front back None p line journal tt falls named none in
-      let most = none_at_end lab (length l) first.0 back uncut first.2 in
-      let within = said_within lab l None first_stage 0 front back p line journal ps h in
-      omega (arith, first.1, most, within)
+      omega (arith, ends_at front back p line ps h none, life_on (length l) back [] uncut, ap (life (length l)) (append-nil back))
 
   pub cut_with : (front mid rest : List Entry) (p q : ℕ) (line ps : List ℕ)
       → GoesOn lab l None first_stage 0 (front ++ entry.Said p line journal ∷ (mid ++ entry.Unrecorded q ∷ rest)) ps
       → outlived lab (length l) None (front ++ entry.Said p line journal ∷ (mid ++ entry.Unrecorded q ∷ rest)) ≡ None → are_cut mid ≡ false → q ≡ p
   cut_with front mid rest p q line ps h none uncut =
-      let falls = never_fall lab l None first_stage 0 (front ++ entry.Said p line journal ∷ (mid ++ entry.Unrecorded q ∷ rest)) ps h in
-      let first = first_of_life lab (length l) 0 front (mid ++ entry.Unrecorded q ∷ rest) None p line journal tt falls named none in
-      let most = none_at_cut lab (length l) first.0 mid rest q uncut first.2 in
-      let least = falls_to p mid rest (entry.Unrecorded q) first.3 in
-      omega (arith, first.1, most, least)
+      omega (arith, ends_at front (mid ++ entry.Unrecorded q ∷ rest) p line ps h none, life_on (length l) mid (entry.Unrecorded q ∷ rest) uncut)

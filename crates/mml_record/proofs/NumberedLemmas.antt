@@ -1,17 +1,11 @@
 -- Replies whose first member is a number. The digits of a number contain no comma.
-use Rattle.std.proofs.Common.{◌≡◌, ℕ, zero, suc, ◌/◌, ◌%◌, Bool, true, false, cond, eqb, List, [], ◌∷◌, ◌++◌, decimal, refl, arith}
-use Rattle.std.{specs.Prelude.nat_lt, specs.Fmt.digits, specs.Fmt.digits_onto, specs.Fmt.digit_glyph, proofs.lemmas.Bool.and_from, proofs.lemmas.Bool.Decides.nat_tests}
+use Rattle.std.proofs.Common.{◌≡◌, ℕ, zero, suc, ◌/◌, ◌%◌, true, false, List, [], ◌∷◌, ◌++◌, decimal, refl, arith}
+use Rattle.std.{specs.Prelude.nat_lt, specs.Fmt.digits, specs.Fmt.digits_onto, specs.Fmt.digit_glyph, proofs.lemmas.Bool.Decides.nat_tests}
 use Rattle.mml_journal.proofs.CuttingLemmas.{avoids}
-
-digit_more : (b : Bool) (front rest : List ℕ) → avoids 44 front ≡ true → avoids 44 rest ≡ true → avoids 44 (cond b front rest) ≡ true
-digit_more b front rest h k = grind (arith, nat_tests)
 
 no_comma_from : (k n : ℕ) (acc : List ℕ) → avoids 44 acc ≡ true → avoids 44 (digits_onto k 10 false n acc) ≡ true
 no_comma_from zero n acc h = h
-no_comma_from (suc k) n acc h =
-    let more : avoids 44 (digit_glyph false (n % 10) ∷ acc) ≡ true = and_from _ _ (grind (arith, nat_tests, nat_lt (n % 10) 10, n % 10)) h in
-    digit_more (eqb (n / 10) 0) (digit_glyph false (n % 10) ∷ acc) (digits_onto k 10 false (n / 10) (digit_glyph false (n % 10) ∷ acc)) more
-    (no_comma_from k (n / 10) (digit_glyph false (n % 10) ∷ acc) more)
+no_comma_from (suc k) n acc h = grind (arith, nat_tests, nat_lt (n % 10) 10, n % 10, no_comma_from k (n / 10) (digit_glyph false (n % 10) ∷ acc))
 
 pub no_comma : (n : ℕ) → avoids 44 (decimal n) ≡ true
 unfolding digits

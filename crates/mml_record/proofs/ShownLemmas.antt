@@ -2,7 +2,7 @@
 -- look or a report. The known participant is the one whose hello was granted in the session.
 use Rattle.std.{proofs.lemmas.Bool.Decides.nat_tests, specs.List.All, proofs.lemmas.Bool.or_right, proofs.lemmas.Bool.false≢true, proofs.lemmas.Fmt.length-decimal-le}
 use Rattle.std.{proofs.lemmas.List.get_or_default}
-use Rattle.std.proofs.Common.{◌≡◌, ◌≢◌, ℕ, ◌<◌, ◌≤◌, ◌^◌, true, List, ◌∷◌, [], ◌++◌, codes, decimal, length, slice_index, refl, sym, subst, Option, None, Some, Ok, arith, length-append}
+use Rattle.std.proofs.Common.{◌≡◌, ◌≢◌, ℕ, ◌<◌, ◌≤◌, ◌^◌, true, List, [], length, slice_index, refl, Option, None, Some, Ok, arith, length-append}
 use Rattle.mml_ids.specs.{Lines.IsUnbroken, Ids.rank_in}
 use Rattle.mml_ids.proofs.{SearchLemmas.some_below-find, GivesLemmas.bind-from, GivesLemmas.need-from, IdsLemmas.rank_of_id}
 use Rattle.mml_lab.specs.{declared.who.Who.Who, Labs.LabValue, Labs.IsLab, Rosters.owns}
@@ -21,7 +21,7 @@ use Rattle.mml_policy.specs.declared.command.Command.TheVariants as command
 use Rattle.mml_codec.specs.declared.request.Request.TheVariants as requests
 
 -- after these events, the reply to the command shows something
-abbrev Shows : LabValue → List Event → Who → Command → Type 0
+abbrev pub Shows : LabValue → List Event → Who → Command → Type 0
 Shows lab first x c =
     is_shown (reply_of (after_ruling (world_in lab first) (ruling_at lab (world_in lab first) x c)) (ruling_at lab (world_in lab first) x c)) ≡ true
 
@@ -40,22 +40,15 @@ by_request lab first x c can short shows = grind (arith, nat_tests, unbroken_all
 
 -- ---- the teacher's report
 
-report_text : canonical (requests.Do command.Report) ≡ codes "{\"do\":\"report\"}"
-unfolding canonical escape_byte
-report_text = refl
-
 teacher_shown : (lab : LabValue) (first : List Event) → CanBeShown lab first (Some who.Teacher)
-teacher_shown lab first =
-    by_request lab first who.Teacher command.Report (tt, tt) (subst (λ (x : List ℕ). length x ≤ MAX_REQUEST) (sym report_text) (omega arith)) refl
+unfolding canonical escape_byte
+teacher_shown lab first = by_request lab first who.Teacher command.Report (tt, tt) (omega arith) refl
 
 -- ---- an owner's look
 
-look_text : (n : ℕ) → canonical (requests.Do (command.Look n)) ≡ codes "{\"do\":\"look\",\"node\":" ++ (decimal n ++ 125 ∷ [])
-unfolding canonical escape_byte
-look_text n = refl
-
 look_short : (n : ℕ) → n < 2 ^ 64 → length (canonical (requests.Do (command.Look n))) ≤ MAX_REQUEST
-look_short n small = grind (arith, nat_tests, length-decimal-le 20 n (omega arith) (omega arith) small, length-append, look_text)
+unfolding canonical escape_byte
+look_short n small = grind (arith, nat_tests, length-decimal-le 20 n (omega arith) (omega arith) small, length-append)
 
 look_shows : (lab : LabValue) (first : List Event) (x : Who) (i id : ℕ) → rank_in lab.ids id ≡ Some i → owns lab.roster x i ≡ true
     → Shows lab first x (command.Look id)
@@ -64,10 +57,8 @@ look_shows lab first x i id rank own = grind (arith, nat_tests, or_right, bind-f
 owner_shown : (lab : LabValue) → IsLab lab → (first : List Event) (x : Who) (i : ℕ) → owns lab.roster x i ≡ true → CanBeShown lab first (Some x)
 owner_shown lab is first x i own =
     let there : i < length lab.ids = omega (arith, owned_within lab.roster x i own, is.owned) in
-    let id : ℕ = slice_index lab.ids i in
     let small : slice_index lab.ids i < 2 ^ 64 = omega (arith, is.ids.within i there) in
-    let rank : rank_in lab.ids (slice_index lab.ids i) ≡ Some i =
-    rank_of_id lab.ids i (slice_index lab.ids i) is.ids there (get_or_default lab.ids i 0 (slice_index lab.ids i) there) in
+    let rank = rank_of_id lab.ids i (slice_index lab.ids i) is.ids there (get_or_default lab.ids i 0 (slice_index lab.ids i) there) in
     by_request lab first x (command.Look (slice_index lab.ids i)) (tt, (small, tt)) (look_short (slice_index lab.ids i) small)
     (look_shows lab first x i (slice_index lab.ids i) rank own)
 

@@ -228,6 +228,7 @@ fn read_ask(
 /// known, what the line asked, and how its reply denied or refused it, if it did. The text must be a record that fits
 /// the events of a journal of the lab; any other is read up to the first bytes that are no entry. Only the contract
 /// uses `events`. Returns `Memory` if memory runs out.
+#[tactic(auto, using(crate::proofs::AskReadingLemmas::shorter))]
 pub fn read_asks(
     alloc: Global,
     lab: &Lab,

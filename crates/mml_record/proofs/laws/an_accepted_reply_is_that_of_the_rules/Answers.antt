@@ -1,17 +1,18 @@
-use Rattle.mml_record.proofs.AcceptedLemmas.{denied_so, full_so, granted_so, greeted_so, unread_so}
+use Rattle.std.proofs.{Common.◌≡◌, Common.◌⊎◌, Common.true, Common.inl, Common.inr, Common.arith, lemmas.Bool.Decides.nat_tests}
+use Rattle.mml_board.specs.declared.{done.Done.Done, event.Event.Event}
+use Rattle.mml_codec.specs.declared.reply.{Refused.Refused, Reply.Reply}
+use Rattle.mml_record.specs.Certified.{may_refuse}
+use Rattle.mml_policy.specs.declared.ruling.Ruling.TheVariants as rulings
+use Rattle.mml_codec.specs.declared.reply.Refused.TheVariants as refused
+use Rattle.mml_codec.specs.declared.reply.Reply.TheVariants as reply
 use Rattle.mml_record.proofs.laws.an_accepted_reply_is_that_of_the_rules.Goals as goal
 
-pub returns-clause-denied : goal.returns-clause-denied
-returns-clause-denied c = λ lab l first who c d line r known'. denied_so lab l first r line known' who c d
-
-pub returns-clause-full : goal.returns-clause-full
-returns-clause-full c = λ lab l first who c line r known'. full_so lab l first r line known' who c
+in_place : (e : Event) (done : Done) (r : Reply) (why : Refused) → r ≡ reply.Refuse why → may_refuse (rulings.Granted e done) why ≡ true
+    → (r ≡ reply.Refuse refused.Journal) ⊎ (r ≡ reply.Refuse refused.Memory)
+in_place e done r why is may = grind (arith, nat_tests)
 
 pub returns-clause-granted : goal.returns-clause-granted
-returns-clause-granted c = λ lab l first who c e done line r known'. granted_so lab l first r line known' who c e done
-
-pub returns-clause-greeted : goal.returns-clause-greeted
-returns-clause-greeted c = λ lab l first known then q a line r known'. greeted_so lab l first r line known' known then q a
-
-pub returns-clause-unread : goal.returns-clause-unread
-returns-clause-unread c = λ lab l first known fault line r known'. unread_so lab l first r line known' known fault
+returns-clause-granted c = λ lab l first who command e done line r known is so h. elim h [
+  | inl f ↦ let fits = rw so at (rw is at f).1 in elim fits [ inl plain ↦ inl plain | inr q ↦ inr (in_place e done r q.0 q.1 q.2) ]
+  | inr m ↦ inr (inr m.0)
+]
