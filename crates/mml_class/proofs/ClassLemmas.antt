@@ -1,20 +1,13 @@
 -- The records of the seats, which are read one after another.
 use Rattle.std.proofs.lemmas.{Bool.Decides.nat_tests, List.Folds.list_all-append, List.Folds.list_any-append, List.Sums.sum_by_push, List.Concat.flat_map-append}
-use Rattle.std.proofs.Common.{◌≡◌, ◌+◌, ◌-◌, ◌≤◌, ◌++◌, [], ◌∷◌, ◌&&◌, ◌||◌, ℕ, List, Bool, false, ap, subst, refl, sym, ◌∙◌, suc, zero, length, append_assoc, append-nil, length-append, Option, None}
-use Rattle.std.proofs.Common.{Some, arith}
-use Rattle.std.specs.{List.list_all, List.list_any, Prelude.IfSome}
-use Rattle.mml_ids.specs.inside.WordsLemmas.{has_empty}
-use Rattle.mml_lab.specs.{declared.who.Who.Who, Labs.LabValue}
+use Rattle.std.proofs.Common.{◌≡◌, ◌+◌, ◌-◌, ◌≤◌, ◌++◌, [], ◌∷◌, ◌&&◌, ◌||◌, ℕ, List, Bool, ap, subst, refl, sym, ◌∙◌, suc, zero, length, append_assoc, append-nil, length-append, Option, None, Some}
+use Rattle.std.{proofs.Common.arith, specs.List.list_all, specs.List.list_any, specs.Prelude.IfSome}
+use Rattle.mml_lab.specs.{Labs.LabValue}
 use Rattle.mml_board.specs.declared.event.Event.{Event}
-use Rattle.mml_tally.specs.{declared.ask.Ask.Ask, declared.record_text.Findings.Findings, Lacking.lacks}
+use Rattle.mml_tally.specs.{declared.ask.Ask.Ask, declared.record_text.Findings.Findings}
 use Rattle.mml_record.specs.{declared.kept_entry.Entry.Entry, Halts.outlived, Certified.IsRecordOf, Asks.asks_in, Entries.record_text}
-use Rattle.mml_class.specs.{declared.class_record.ClassRecord.ClassRecord, declared.class_record.ClassFault.ClassFault, declared.granting.Misgranted.Misgranted, Begun.begun_in, Granting.IsFound}
-use Rattle.mml_class.specs.Classes.{AreRecordsOf, AreNotOutlived, IsClassRecord, IsClassRefused}
-use Rattle.mml_class.specs.inside.Seats.{no_findings, AddsSeat, IsSeatRefused, AreReadSoFar}
-use Rattle.mml_lab.specs.declared.who.Who.TheVariants as who
-use Rattle.mml_class.specs.declared.class_record.ClassFault.TheVariants as fault
-
--- ---- lists to which one element is appended
+use Rattle.mml_class.specs.{declared.class_record.ClassFault.ClassFault, Classes.AreRecordsOf, Classes.AreNotOutlived, Classes.IsClassRefused}
+use Rattle.mml_class.specs.inside.Seats.{AddsSeat, IsSeatRefused, AreReadSoFar}
 
 all_push : {X : Type 0} (p : X → Bool) (xs : List X) (x : X) → list_all p (xs ++ x ∷ []) ≡ (list_all p xs && p x)
 all_push p xs x = list_all-append p xs (x ∷ []) ∙ ap (λ (b : Bool). list_all p xs && b) (grind (arith, nat_tests, p x))
@@ -22,22 +15,10 @@ all_push p xs x = list_all-append p xs (x ∷ []) ∙ ap (λ (b : Bool). list_al
 any_push : {X : Type 0} (p : X → Bool) (xs : List X) (x : X) → list_any p (xs ++ x ∷ []) ≡ (list_any p xs || p x)
 any_push p xs x = list_any-append p xs (x ∷ []) ∙ ap (λ (b : Bool). list_any p xs || b) (grind (arith, nat_tests, p x))
 
-both : (a a' b b' : Bool) → a ≡ a' → b ≡ b' → (a && b) ≡ (a' && b')
-both a a' b b' x y = ap (λ (c : Bool). c && b) x ∙ ap (λ (c : Bool). a' && c) y
-
-either : (a a' b b' : Bool) → a ≡ a' → b ≡ b' → (a || b) ≡ (a' || b')
-either a a' b b' x y = ap (λ (c : Bool). c || b) x ∙ ap (λ (c : Bool). a' || c) y
-
-none_lacked : (known : Who) → lacks no_findings known ≡ false
-none_lacked who.Teacher = refl
-none_lacked (who.Student s) = has_empty s
-
 -- if P holds for the bytes of a reader that was opened at the beginning of a text, P holds for the text
 pub opened : (told remaining : Option (List ℕ)) (text : List ℕ) (P : List ℕ → Type 0) → told ≡ Some text → IfSome told (λ bytes. remaining ≡ Some bytes)
     → IfSome remaining P → P text
 opened told remaining text P is opens holds = grind (arith, nat_tests)
-
--- ---- one more record
 
 module _ (lab : LabValue) (l : List Event) (texts : ℕ → List ℕ) where
   records_more : (first : ℕ) (ess : List (List Entry)) (es : List Entry) (places own : List ℕ) → AreRecordsOf lab l texts first ess places
@@ -56,10 +37,6 @@ module _ (lab : LabValue) (l : List Event) (texts : ℕ → List ℕ) where
   lasting_more [] es h none = (none, tt)
   lasting_more (x ∷ xs) es h none = (h.0, lasting_more xs es h.1 none)
 
-  pub first_seat : (with_asks : Bool) (f : Findings) (places : List ℕ) (asks : List Ask) → f ≡ no_findings → places ≡ [] → asks ≡ []
-      → AreReadSoFar lab l with_asks texts 0 f places asks
-  first_seat with_asks f places asks nothing none no_asks = grind (arith, nat_tests, none_lacked)
-
   pub next_seat : (with_asks : Bool) (n number : ℕ) (f f' : Findings) (places places' : List ℕ) (asks asks' : List Ask) → number ≡ n + 1
       → AreReadSoFar lab l with_asks texts n f places asks → AddsSeat lab l number with_asks (texts number) places places' asks asks' f f'
       → AreReadSoFar lab l with_asks texts (n + 1) f' places' asks'
@@ -71,7 +48,7 @@ module _ (lab : LabValue) (l : List Event) (texts : ℕ → List ℕ) where
         records = subst (λ (ps : List ℕ). AreRecordsOf lab l texts 1 (so.entries ++ read.0 ∷ []) ps) (sym read.5)
             (records_more 1 so.entries read.0 places read.1 so.records read.2 (subst (λ (k : ℕ). texts k ≡ record_text k read.0) here read.3));
         lasting = lasting_more so.entries read.0 so.lasting read.7;
-        comes = grind (arith, nat_tests, sum_by_push, both, all_push, either, any_push);
+        comes = grind (arith, nat_tests, sum_by_push, all_push, any_push);
         asked = λ wanted. read.6 wanted ∙ ap (λ (xs : List Ask). xs ++ asks_in lab.roster read.0) (so.asked wanted) ∙ sym (grind (arith, nat_tests, flat_map-append, append-nil));
       }
 
@@ -80,13 +57,3 @@ module _ (lab : LabValue) (l : List Event) (texts : ℕ → List ℕ) where
       → number ≤ lab.sessions → AreReadSoFar lab l with_asks texts n f places asks → IsSeatRefused lab l number (texts number) why
       → IsClassRefused lab l start texts why
   bad_seat with_asks start n number f places asks why is few so refused = grind (arith, nat_tests)
-
-  pub passed : (with_asks : Bool) (start : List ℕ) (n : ℕ) (places seen : List ℕ) (r : Option Misgranted) (class : ClassRecord) → n ≡ lab.sessions
-      → begun_in start ≡ Some class.begun → AreReadSoFar lab l with_asks texts n class.findings places class.asks.items → seen ≡ places → r ≡ None
-      → IsFound class.begun (length l) class.findings.whole seen r → IsClassRecord lab l with_asks start texts class
-  passed with_asks start n places seen r class all begun so same none finds = grind (arith, nat_tests)
-
-  pub misgranted : (with_asks : Bool) (start : List ℕ) (n begun : ℕ) (f : Findings) (places seen : List ℕ) (asks : List Ask) (r : Option Misgranted) (amiss : Misgranted)
-      → n ≡ lab.sessions → begun_in start ≡ Some begun → AreReadSoFar lab l with_asks texts n f places asks → seen ≡ places → r ≡ Some amiss
-      → IsFound begun (length l) f.whole seen r → IsClassRefused lab l start texts (fault.Places amiss)
-  misgranted with_asks start n begun f places seen asks r amiss all begins so same some finds = grind (arith, nat_tests)
