@@ -4,11 +4,12 @@
 use Rattle.std.proofs.Common.{zero, suc, ◌&&◌, ◌==◌, nat_lt, ◌∙◌, ap, ◌≡◌, ℕ, ◌+◌, ◌*◌, ◌-◌, ◌<◌, ◌≤◌, inl, inr, Bool, true, false, Some, refl, arith, ◌%◌, Option, cond, nat_le, ◌||◌, None, sym, subst}
 use Rattle.std.proofs.lemmas.Bool.{cases_lt, Decides.nat_tests}
 use Rattle.mml_ids.specs.{declared.TheConstants.MAX_NODES, Search.count_below}
+use Rattle.mml_ids.proofs.SearchLemmas.{count_same}
 use Rattle.mml_rules.specs.{Configuration.Configuration, Configuration.holds, declared.regs.Regs.Regs, declared.rule.Rule.Rule, Network.no_regs, Meaning.IsCandidate}
 use Rattle.mml_board.specs.World.{size, configuration, IsWorld}
 use Rattle.mml_convergence.specs.{Comb.first_pointer, Comb.is_comb, Comb.comb, Comb.comb_world, Potential.sum_below, Potential.is_above}
 use Rattle.mml_lab.specs.{Labs.links_below, Labs.link_count, Rosters.RosterValue, Rosters.owns}
-use Rattle.mml_convergence.proofs.{SumsLemmas.count_none, SumsLemmas.count_same, SumsLemmas.count_one, WholePotentialLemmas.counted_above, ClearLemmas.Applies, ClearLemmas.clears}
+use Rattle.mml_convergence.proofs.{SumsLemmas.count_none, SumsLemmas.count_one, WholePotentialLemmas.counted_above, ClearLemmas.Applies, ClearLemmas.clears}
 use Rattle.mml_rules.proofs.RulesLemmas.{married-null, married-from}
 use Rattle.mml_convergence.proofs.IdleLemmas.{may_update, may_marry, may_abandon, may_seduce, seduces_greatest}
 use Rattle.mml_convergence.proofs.MoveLemmas.{put, Has, pointer_in, Onward, alike, play, stop}

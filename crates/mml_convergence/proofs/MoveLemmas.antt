@@ -1,6 +1,7 @@
 -- Runs in which each close applies only one move.
 use Rattle.std.{proofs.lemmas.Bool.Decides.nat_tests, proofs.lemmas.Bool.and_from, proofs.lemmas.Bool.eq-eqb, specs.List.list_all}
 use Rattle.std.proofs.Common.{◌≡◌, ℕ, suc, ◌<◌, Bool, true, false, cond, ◌==◌, Option, None, Some, is_some, List, [], ◌∷◌, refl, ap, ◌∙◌, arith}
+use Rattle.mml_ids.proofs.SearchLemmas.{count_same}
 use Rattle.mml_rules.specs.{declared.regs.Regs.Regs, declared.rule.Rule.Rule, Configuration.Configuration, Configuration.IsLawful, Rules.guard, Rules.effect, Rules.moved, Network.registers_at}
 use Rattle.mml_lab.specs.Rosters.{RosterValue, owns}
 use Rattle.mml_board.specs.{declared.event.Event.Event, World.World, World.size, World.configuration, World.chosen_at, World.IsWorld, Runs.is_legal_list, Runs.world_of}
@@ -8,7 +9,7 @@ use Rattle.mml_board.specs.Events.{is_chosen, is_legal, after, chosen_count, mov
 use Rattle.mml_board.proofs.WorldLemmas.{after-world, chosen_at-set, moved_at, none_at, size-after}
 use Rattle.mml_board.proofs.ClausesLemmas.{owned_legal, grant_possible, close_possible}
 use Rattle.mml_convergence.specs.{Moves.applied_over, Moves.count_closes, Rest.is_grant_or_close, Rounds.Rounds}
-use Rattle.mml_convergence.proofs.{RestLemmas.any_chosen, SumsLemmas.count_same, SumsLemmas.count_one}
+use Rattle.mml_convergence.proofs.{RestLemmas.any_chosen, SumsLemmas.count_one}
 use Rattle.mml_lab.specs.declared.who.Who.TheVariants as who
 use Rattle.mml_board.specs.declared.event.Event.TheVariants as event
 

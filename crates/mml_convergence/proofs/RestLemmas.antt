@@ -7,9 +7,9 @@ use Rattle.mml_ids.proofs.SearchLemmas.{some_below-find, some_below-none}
 use Rattle.mml_rules.specs.{declared.rule.Rule.Rule, Configuration.Configuration, Rules.guard, Rules.is_privileged, Matching.IsStable, Matching.IsMaximal}
 use Rattle.mml_rules.proofs.{EnabledKindLemmas.idle-guard, MeaningLemmas.privileged-means}
 use Rattle.mml_lab.specs.Rosters.{RosterValue, owners_of, owns}
-use Rattle.mml_board.specs.{declared.event.Event.Event, Events.is_any_chosen, Events.is_legal, Events.after, Runs.is_legal_list, Runs.world_of}
+use Rattle.mml_board.specs.{declared.event.Event.Event, Events.is_any_chosen, Events.is_legal, Runs.is_legal_list, Runs.world_of}
 use Rattle.mml_board.specs.World.{World, size, configuration, chosen_at, IsWorld}
-use Rattle.mml_board.proofs.{WorldLemmas.size-after, WorldLemmas.chosen_node, RunsLemmas.list-world}
+use Rattle.mml_board.proofs.{WorldLemmas.chosen_node, RunsLemmas.list-world, RunsLemmas.size-world_of}
 use Rattle.mml_board.proofs.ClausesLemmas.{is_fit, fit, legal_possible, owned_legal, grant_possible, close_possible}
 use Rattle.mml_convergence.specs.{Runs.is_of_step, Rest.EachHasOwner, Rest.IsOver}
 use Rattle.mml_stable.proofs.MatchingLemmas.{maximal}
@@ -88,15 +88,10 @@ over_stable r w k owned over i lt = false_from_ne_true (is_privileged (configura
     let owner = first_owner r i (owned i lt) in
     both_ways (is_legal r w (event.Grant owner.0 i move.0)) (over.no_grant owner.0 i move.0) (move.1 owner.0 owner.1))
 
--- events keep the number of nodes
-pub same_size : (w : World) (es : List Event) → size (world_of w es) ≡ size w
-same_size w [] = refl
-same_size w (e ∷ es) = same_size (after w e) es ∙ size-after w e
-
 -- if a run is over, no node is privileged, and each link has an end in a pair
 pub ended : (r : RosterValue) (w : World) (es : List Event) → IsWorld w → EachHasOwner r (size w) → is_legal_list r w es ≡ true → IsOver r (world_of w es)
     → IsStable (configuration (world_of w es)) × IsMaximal (configuration (world_of w es))
 ended r w es k owned legal over =
     let k' = list-world r w es k legal in
-    let stable = over_stable r (world_of w es) k' (λ i lt. owned i (omega (arith, same_size w es))) over in
+    let stable = over_stable r (world_of w es) k' (λ i lt. owned i (omega (arith, size-world_of w es))) over in
     (stable, maximal (configuration (world_of w es)) k'.network.lawful stable)

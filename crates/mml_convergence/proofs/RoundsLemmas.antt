@@ -8,8 +8,8 @@ use Rattle.mml_rules.specs.{declared.rule.Rule.Rule, Rules.is_married, Rules.gua
 use Rattle.mml_rules.proofs.{RulesLemmas.married-null, RulesLemmas.married-at, MeaningLemmas.privileged-means}
 use Rattle.mml_lab.specs.Rosters.{RosterValue}
 use Rattle.mml_board.specs.{declared.event.Event.Event, World.World, World.size, World.configuration, World.IsWorld, Events.after, Runs.is_legal_list, Runs.world_of}
-use Rattle.mml_board.proofs.{WorldLemmas.size-after, RunsLemmas.world_of-append}
-use Rattle.mml_convergence.{specs.Runs.is_of_step, specs.Rounds.IsRound, specs.Rounds.Rounds, specs.Rounds.rounds_for, proofs.RestLemmas.same_size, proofs.RestLemmas.stable_or_privileged}
+use Rattle.mml_board.proofs.{WorldLemmas.size-after, RunsLemmas.world_of-append, RunsLemmas.size-world_of}
+use Rattle.mml_convergence.{specs.Runs.is_of_step, specs.Rounds.IsRound, specs.Rounds.Rounds, specs.Rounds.rounds_for, proofs.RestLemmas.stable_or_privileged}
 use Rattle.mml_stable.proofs.MatchingLemmas.{maximal}
 use Rattle.mml_convergence.proofs.MovesLemmas.{updates, marries, seduces, seduced, abandons, abandoned}
 use Rattle.mml_convergence.proofs.MarriedCountLemmas.{married_count, apart, pair_counts, open_counts, single_counts, most}
@@ -58,7 +58,7 @@ after_round r n a P Q brings next w es run here p x =
     let parts = run_parts r w x.0 x.1 (subst (λ z. IsRun r w z) x.2 run) in
     let same : world_of (world_of w x.0) x.1 ≡ world_of w es = sym (ap (λ z. world_of w z) x.2 ∙ world_of-append w x.0 x.1) in
     subst (λ z. IsStable (configuration z)) same
-    (next (world_of w x.0) x.1 parts.1 (same_size w x.0 ∙ here) (brings w x.0 parts.0 x.3 here p) x.4)
+    (next (world_of w x.0) x.1 parts.1 (size-world_of w x.0 ∙ here) (brings w x.0 parts.0 x.3 here p) x.4)
 
 -- at least m nodes are married, and P holds
 abbrev AtLeast : ℕ → (Configuration → Type 0) → Configuration → Type 0
@@ -236,7 +236,7 @@ from_any r n a next =
     ])
 
 from_start : (n k : ℕ) (r : RosterValue) → rounds_for n ≤ k → Enough r n k Any
-from_start zero k r room w es run here p rounds = λ i lt. absurd (omega (arith, here, same_size w es, lt))
+from_start zero k r room w es run here p rounds = λ i lt. absurd (omega (arith, here, size-world_of w es, lt))
 from_start (suc zero) k r room w es run here p rounds =
     from_any r 1 0 (λ x z up lt. absurd (omega (arith, up, lt))) w es run here p (fewer 1 k w es (omega (arith, room)) rounds)
 from_start (suc (suc d)) k r room w es run here p rounds =

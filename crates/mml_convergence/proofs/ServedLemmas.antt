@@ -6,9 +6,9 @@ use Rattle.mml_rules.specs.{declared.rule.Rule.Rule, Configuration.Configuration
 use Rattle.mml_lab.specs.Rosters.{RosterValue}
 use Rattle.mml_board.specs.{declared.event.Event.Event, World.World, World.size, World.configuration, World.chosen_at, World.IsWorld, Runs.is_legal_list, Runs.world_of}
 use Rattle.mml_board.specs.Events.{is_legal, is_chosen, after}
-use Rattle.mml_board.proofs.{WorldLemmas.closed-step, WorldLemmas.after-world, ClausesLemmas.legal_possible}
+use Rattle.mml_board.proofs.{WorldLemmas.closed-step, WorldLemmas.after-world, ClausesLemmas.legal_possible, RunsLemmas.size-world_of}
 use Rattle.mml_convergence.specs.{Runs.is_of_step, Moves.is_close, Rounds.is_served, Rounds.IsRound}
-use Rattle.mml_convergence.proofs.{RestLemmas.stable_final, RestLemmas.same_size, MarriedCountLemmas.married_count, StagesLemmas.Each}
+use Rattle.mml_convergence.proofs.{RestLemmas.stable_final, MarriedCountLemmas.married_count, StagesLemmas.Each}
 use Rattle.mml_convergence.proofs.PhasesLemmas.{Stays, Brings, Within, CalmStays, CalmBrings, calm_stays, calm_brings}
 use Rattle.mml_board.specs.declared.event.Event.TheVariants as event
 
@@ -94,7 +94,7 @@ served P Q i stays b r w (e ∷ es) k p turn =
 pub round_brings : (P : Configuration → Type 0) (Q : ℕ → Configuration → Type 0) → Stays P → ((i : ℕ) → Brings P (λ c. i < c.size → Q i c) i)
     → (r : RosterValue) (w : World) (es : List Event) → IsRun r w es → IsRound w es → P (configuration w) → Each Q (configuration (world_of w es))
 round_brings P Q stays b r w es k round p i lt =
-    served P (λ c. i < c.size → Q i c) i stays (b i) r w es k p (round i (omega (arith, lt, same_size w es))) lt
+    served P (λ c. i < c.size → Q i c) i stays (b i) r w es k p (round i (omega (arith, lt, size-world_of w es))) lt
 
 -- after a round, P and Q hold if P stays true and a turn of i makes Q true, or the number of married nodes has grown by
 -- two
@@ -121,4 +121,4 @@ calm_round n P Q stays b r w es k round p = elim (cases_lt (married_count (confi
 ]
   where
     turn : (i : ℕ) → i < size (world_of w es) → Within n (λ c. P c × (i < c.size → Q i c)) (configuration (world_of w es))
-    turn i lt = calm_turn n P (λ c. i < c.size → Q i c) i stays (b i) r w es k round (omega (arith, lt, same_size w es)) p
+    turn i lt = calm_turn n P (λ c. i < c.size → Q i c) i stays (b i) r w es k round (omega (arith, lt, size-world_of w es)) p

@@ -41,11 +41,6 @@ pub count_one_at_most : (n k : ℕ) (t : ℕ → Bool) → ((j : ℕ) → t j �
 count_one_at_most zero k t only = omega arith
 count_one_at_most (suc n) k t only = grind (arith, count_one_at_most n k t only, count_none n t, only n)
 
--- two tests that agree on the numbers below n have the same count
-pub count_same : (n : ℕ) (s t : ℕ → Bool) → ((j : ℕ) → j < n → s j ≡ t j) → count_below n s ≡ count_below n t
-count_same zero s t same = refl
-count_same (suc n) s t same = grind (arith, count_same n s t, same)
-
 -- if some number below n passes, at least one is counted
 pub count_some : (n i : ℕ) (t : ℕ → Bool) → i < n → t i ≡ true → 1 ≤ count_below n t
 count_some zero i t lt on = absurd (omega arith)

@@ -4,12 +4,12 @@ use Rattle.std.proofs.Common.{◌≡◌, ℕ, zero, suc, ◌+◌, ◌*◌, ◌<�
 use Rattle.std.specs.Option.{option_map_or}
 use Rattle.std.proofs.lemmas.Bool.{and_parts, and_right, ltb-true, lt-ltb, le-ltb, eqb-true, false_from_ne_true, cases_Bool, Decides.nat_tests}
 use Rattle.mml_ids.specs.Search.{count_below}
-use Rattle.mml_ids.proofs.SearchLemmas.{same_bool}
+use Rattle.mml_ids.proofs.SearchLemmas.{same_bool, count_same}
 use Rattle.mml_rules.specs.{declared.rule.Rule.Rule, Configuration.Configuration, Configuration.IsLawful, Configuration.holds, Rules.is_married, Rules.step, Rules.AllHold}
 use Rattle.mml_lab.specs.Labs.{links_below}
 use Rattle.mml_convergence.specs.{Potential.sum_below, Potential.points_down, Potential.is_above, Potential.link_part, Potential.potential, Potential.whole_potential, Moves.moves}
 use Rattle.mml_convergence.proofs.{PartsLemmas.own_most, PartsLemmas.link_most, MovesLemmas.pays, MovesLemmas.marries_lower, PotentialLemmas.potential_fell}
-use Rattle.mml_convergence.proofs.SumsLemmas.{sum_kept, sum_charged, sum_most, sum_parts, sum_split, sum_turned, sum_of_tests, one_column, count_none, count_some, count_one_at_most, count_same}
+use Rattle.mml_convergence.proofs.SumsLemmas.{sum_kept, sum_charged, sum_most, sum_parts, sum_split, sum_turned, sum_of_tests, one_column, count_none, count_some, count_one_at_most}
 
 -- ---- a step
 

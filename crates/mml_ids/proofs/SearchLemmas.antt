@@ -2,7 +2,7 @@
 use Rattle.std.proofs.Common.{◌≡◌, ℕ, zero, suc, ◌+◌, ◌-◌, ◌<◌, ◌≤◌, Option, Some, None, Bool, true, false, cond, List, length, get_or, nat_lt, refl, sym, ap, ◌∙◌, zero-add, suc-add, add_comm, arith}
 use Rattle.std.{specs.List.position, proofs.lemmas.List.Sums.position_or_len_is, proofs.lemmas.List.Sums.fails_before_first}
 use Rattle.std.proofs.lemmas.Bool.{or_cases, or_left, or_right, or_parts, false≢true, cases_order, cases_Bool, lt-ltb, le-ltb, ltb-false, false_from_ne_true, cond_both}
-use Rattle.mml_ids.specs.Search.{first_from, first_below, some_below, greatest_below}
+use Rattle.mml_ids.specs.Search.{first_from, first_below, some_below, greatest_below, count_below}
 
 -- what the result of a search of the n numbers from s on says of the test
 abbrev Answers : (ℕ → Bool) → ℕ → ℕ → Option ℕ → Type 0
@@ -135,3 +135,8 @@ pub greatest_below_alike : (n m : ℕ) (t u : ℕ → Bool) → ((k : ℕ) → t
     → greatest_below n t ≡ greatest_below m u
 greatest_below_alike n m t u same under_n under_m =
     sym (greatest_below_more m n t under_n) ∙ (λ i. greatest_below (add_comm m n i) (λ k. same k i)) ∙ greatest_below_more n m u under_m
+
+-- two tests that agree on the numbers below n have the same count
+pub count_same : (n : ℕ) (s t : ℕ → Bool) → ((j : ℕ) → j < n → s j ≡ t j) → count_below n s ≡ count_below n t
+count_same zero s t same = refl
+count_same (suc n) s t same = grind (arith, count_same n s t, same)

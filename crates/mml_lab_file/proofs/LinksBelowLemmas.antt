@@ -3,6 +3,7 @@ use Rattle.std.proofs.Common.{◌≡◌, ◌≢◌, ℕ, zero, suc, ◌+◌, ◌
 use Rattle.std.proofs.lemmas.Bool.{cases_eq}
 use Rattle.mml_rules.specs.Configuration.{Configuration}
 use Rattle.mml_ids.specs.Search.{count_below}
+use Rattle.mml_ids.proofs.SearchLemmas.{count_same}
 use Rattle.mml_lab.specs.Labs.{links_below}
 
 -- the number of pairs (i, j) with j < i < n that pass the test
@@ -17,10 +18,6 @@ links_below-pairs c (suc n) = ap (λ k. k + count_below n (c.linked n)) (links_b
 
 tally : (b c : Bool) → b ≡ c → cond {A = ℕ} b 1 0 ≡ cond c 1 0
 tally b c e = ap (λ x. cond x 1 0) e
-
-count_same : (n : ℕ) (s t : ℕ → Bool) → ((j : ℕ) → j < n → s j ≡ t j) → count_below n s ≡ count_below n t
-count_same zero s t same = refl
-count_same (suc n) s t same = grind (arith, tally, count_same n s t)
 
 -- if two tests agree except at k, where only the second is true, the second counts one number more
 count_one : (n k : ℕ) (s t : ℕ → Bool) → k < n → s k ≡ false → t k ≡ true → ((j : ℕ) → j < n → j ≢ k → s j ≡ t j) → count_below n t ≡ count_below n s + 1

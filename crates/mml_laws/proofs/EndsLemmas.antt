@@ -6,13 +6,13 @@ use Rattle.mml_rules.specs.Matching.{IsStable}
 use Rattle.mml_lab.specs.Labs.{LabValue, IsLab, link_count}
 use Rattle.mml_lab_file.{specs.Reading.lab_of, proofs.LabMeaningLemmas.lawful, proofs.OwnersLemmas.one_or_two}
 use Rattle.mml_board.specs.{declared.event.Event.Event, Events.is_legal, Events.done_by, Runs.is_legal_list, Lists.world_in, World.World, World.size, World.configuration, World.opening_of}
-use Rattle.mml_board.proofs.RunsLemmas.{list-world, legal-append, place-world_of}
+use Rattle.mml_board.proofs.RunsLemmas.{list-world, legal-append, place-world_of, size-world_of}
 use Rattle.mml_policy.specs.{declared.ruling.Ruling.TheVariants.Granted, Alike.IsWorldOf, Asking.asker, Asking.command_of, Asking.id_of, Asking.asked_of, Rulings.event_of}
 use Rattle.mml_policy.proofs.AskingLemmas.{legal_granted}
 use Rattle.mml_audit.specs.AuditMeaning.{IsJournalOf}
 use Rattle.mml_stable.{specs.Listed.IsMaximalMatching, specs.Reports.report_of, proofs.ListedLemmas.listed_matching, proofs.MatchingLemmas.stable-means}
 use Rattle.mml_convergence.specs.{Moves.applied_over, Moves.count_closes, Rest.IsOver, Runs.is_of_step}
-use Rattle.mml_convergence.proofs.{AppliedLemmas.moves_bounded, AppliedLemmas.closes_bounded, RestLemmas.ended, RestLemmas.same_size}
+use Rattle.mml_convergence.proofs.{AppliedLemmas.moves_bounded, AppliedLemmas.closes_bounded, RestLemmas.ended}
 use Rattle.mml_window.specs.Rulings.{ruling_while}
 use Rattle.mml_laws.{specs.Ends.GrantsNoStep, proofs.ChoicesLemmas.opening, proofs.RuledLemmas.ruled_granted}
 use Rattle.mml_board.specs.declared.event.Event.TheVariants as event
@@ -23,7 +23,7 @@ use Rattle.mml_board.specs.declared.event.Event.TheVariants as event
 in_lab : (lab : LabValue) → IsLab lab → (es : List Event) → is_legal_list lab.roster (opening_of lab.network) es ≡ true
     → IsWorldOf lab.ids (world_in lab es)
 in_lab lab is es legal =
-    record { world = list-world lab.roster (opening_of lab.network) es (opening lab is) legal; nodes = sym (same_size (opening_of lab.network) es ∙ is.nodes) }
+    record { world = list-world lab.roster (opening_of lab.network) es (opening lab is) legal; nodes = sym (size-world_of (opening_of lab.network) es ∙ is.nodes) }
 
 -- ---- a house in which neither a move nor a close would be granted
 

@@ -8,9 +8,9 @@ use Rattle.mml_lab.specs.{Labs.link_count, Rosters.RosterValue}
 use Rattle.mml_board.specs.{declared.event.Event.Event, Events.is_legal, Events.is_node, Events.is_chosen, Events.after, Events.chosen_count, Runs.is_legal_list, Runs.world_of}
 use Rattle.mml_board.specs.World.{World, IsWorld, size, configuration, chosen_at}
 use Rattle.mml_board.proofs.ClausesLemmas.{fit, legal_possible, owned_legal, close_possible}
-use Rattle.mml_board.proofs.{WorldLemmas.after-world, RunsLemmas.list-world, RunsLemmas.legal-one_more, RunsLemmas.place-world_of}
+use Rattle.mml_board.proofs.{WorldLemmas.after-world, RunsLemmas.list-world, RunsLemmas.legal-one_more, RunsLemmas.place-world_of, RunsLemmas.size-world_of}
 use Rattle.mml_convergence.specs.{Potential.whole_potential, Rest.EachHasOwner, Rest.is_grant_or_close, Courtships.courting_potential, Most.events_to_rest}
-use Rattle.mml_convergence.proofs.RestLemmas.{any_chosen, may_move, first_owner, same_size, stable_or_privileged}
+use Rattle.mml_convergence.proofs.RestLemmas.{any_chosen, may_move, first_owner, stable_or_privileged}
 use Rattle.mml_convergence.proofs.{WholePotentialLemmas.whole_fell, NumbersLemmas.courtships_kept, NumbersLemmas.courtships_even, WholeLemmas.courting_fell, WholeLemmas.courting_most}
 use Rattle.mml_convergence.proofs.AppliedLemmas.{Falls, close_paid, close_moves, network_most}
 use Rattle.mml_tally.proofs.CountsLemmas.{count_split, only_one}
@@ -77,7 +77,7 @@ next_event r w k owned restless =
 pub fewer : (r : RosterValue) (w : World) (es : List Event) → IsWorld w → EachHasOwner r (size w) → is_legal_list r w es ≡ true
     → list_all is_grant_or_close es ≡ true → ¬ IsStable (configuration (world_of w es)) → length es + 1 ≤ events_to_rest (size w) (link_count w.network)
 fewer r w es k owned legal forward restless =
-    let next = next_event r (world_of w es) (list-world r w es k legal) (λ i lt. owned i (omega (arith, lt, same_size w es))) restless in
+    let next = next_event r (world_of w es) (list-world r w es k legal) (λ i lt. owned i (omega (arith, lt, size-world_of w es))) restless in
     let longer = legal-one_more r w es next.event ∙ and_from _ _ legal next.legal in
     let kinds = list_all-append is_grant_or_close es (next.event ∷ []) ∙ and_from _ _ forward (and_from _ true next.forward refl) in
     omega (arith, events_few r w (es ++ next.event ∷ []) k longer kinds, length-append es (next.event ∷ []))

@@ -21,7 +21,7 @@ pub sends_before : (a b : Option (List ℕ)) (lines held more : List (List ℕ))
 sends_before a b lines held more (sent, all, bytes) = (sent, grind (arith, append_assoc), bytes)
 
 -- if some of the held lines, and then of `more`, are written next, only the others are still held
-pub sends_more : (a b c : Option (List ℕ)) (lines held more left : List (List ℕ)) → Sends a b lines held → Sends b c (held ++ more) left
+sends_more : (a b c : Option (List ℕ)) (lines held more left : List (List ℕ)) → Sends a b lines held → Sends b c (held ++ more) left
     → Sends a c (lines ++ more) left
 sends_more a b c lines held more left h = sends_on a b c (lines ++ more) (held ++ more) left (sends_before a b lines held more h)
 
@@ -43,7 +43,7 @@ breaks_on f a b c lines held (sent, all, bytes) (out, few, part, more) = rw (all
 )
 
 -- if writing the held lines and `more` breaks off, writing all lines and `more` breaks off
-pub breaks_more : (f : WriteFault) (a b c : Option (List ℕ)) (lines held more : List (List ℕ)) → Sends a b lines held → BreaksOff f b c (held ++ more)
+breaks_more : (f : WriteFault) (a b c : Option (List ℕ)) (lines held more : List (List ℕ)) → Sends a b lines held → BreaksOff f b c (held ++ more)
     → BreaksOff f a c (lines ++ more)
 breaks_more f a b c lines held more h = breaks_on f a b c (lines ++ more) (held ++ more) (sends_before a b lines held more h)
 

@@ -6,13 +6,14 @@
 use Rattle.std.proofs.Common.{◌≡◌, ℕ, ◌+◌, ◌<◌, zero, Bool, true, false, ◌&&◌, eqb, List, [], ◌∷◌, Some, None, is_some, replicate, refl, ap, ◌∙◌, arith}
 use Rattle.std.{specs.Prelude.count_by, proofs.lemmas.Bool.and_parts, proofs.lemmas.Bool.and_right, proofs.lemmas.Bool.Decides.nat_tests}
 use Rattle.mml_ids.specs.Search.{count_below}
+use Rattle.mml_ids.proofs.SearchLemmas.{count_same}
 use Rattle.mml_rules.specs.{declared.rule.Rule.Rule, Rules.kind_of}
 use Rattle.mml_lab.specs.Rosters.{RosterValue}
 use Rattle.mml_board.specs.{declared.event.Event.Event, World.World, World.size, World.chosen_at, World.IsWorld, Runs.is_legal_list}
 use Rattle.mml_board.specs.Events.{is_legal, is_chosen, after, chosen_count}
 use Rattle.mml_board.proofs.{WorldLemmas.none_at, WorldLemmas.chosen_at-set, WorldLemmas.chosen_node, WorldLemmas.after-world, ClausesLemmas.is_fit, ClausesLemmas.fit, ClausesLemmas.legal_possible}
 use Rattle.mml_convergence.specs.Moves.{applied_over}
-use Rattle.mml_convergence.proofs.SumsLemmas.{count_none, count_same}
+use Rattle.mml_convergence.proofs.SumsLemmas.{count_none}
 use Rattle.mml_tally.specs.{Moves.fate_of, Moves.moves_from, Marks.is_fate_applied, Marks.is_applied}
 use Rattle.mml_tally.proofs.CountsLemmas.{one, more, count_split, only_one}
 use Rattle.mml_board.specs.declared.event.Event.TheVariants as event

@@ -3,8 +3,9 @@
 use Rattle.std.proofs.Common.{◌≡◌, ◌⊎◌, ℕ, ◌+◌, ◌<◌, ◌≤◌, Bool, true, false, ◌&&◌, eqb, ltb, List, [], ◌∷◌, length, inl, inr, refl, ◌∙◌, sym, arith}
 use Rattle.std.{specs.List.filter, specs.List.list_any, proofs.lemmas.Bool.and_right, proofs.lemmas.Bool.Decides.nat_tests}
 use Rattle.mml_ids.specs.Search.{count_below}
+use Rattle.mml_ids.proofs.SearchLemmas.{count_same}
 use Rattle.mml_board.specs.declared.event.Event.{Event}
-use Rattle.mml_convergence.proofs.SumsLemmas.{count_same, count_none}
+use Rattle.mml_convergence.proofs.SumsLemmas.{count_none}
 use Rattle.mml_tally.specs.{declared.granted_move.Move.Move, Moves.fate_of, Moves.moves_from, Moves.moves, inside.Closes.close_of, inside.Closes.count_new}
 use Rattle.mml_tally.specs.Marks.{is_fate_at, is_applied_at, is_applied, count_applying_closes}
 use Rattle.mml_tally.proofs.CountsLemmas.{one, count_split, only_one}

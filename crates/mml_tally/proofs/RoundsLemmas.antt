@@ -8,9 +8,9 @@ use Rattle.std.proofs.Common.{◌≡◌, ℕ, zero, suc, ◌+◌, ◌≤◌, Boo
 use Rattle.mml_rules.specs.Matching.{IsStable}
 use Rattle.mml_lab.specs.Rosters.{RosterValue}
 use Rattle.mml_board.specs.{declared.event.Event.Event, World.World, World.size, World.configuration, Events.after, Events.is_legal, Runs.world_of}
-use Rattle.mml_board.proofs.RunsLemmas.{world_of-append}
+use Rattle.mml_board.proofs.RunsLemmas.{world_of-append, size-world_of}
 use Rattle.mml_convergence.specs.Rounds.{is_served, IsRound, Rounds, rounds_for}
-use Rattle.mml_convergence.proofs.{SumsLemmas.count_none, SumsLemmas.count_some, RestLemmas.same_size, RestLemmas.stable_final, RoundsLemmas.rounds_end, RoundsLemmas.rounds_fewer}
+use Rattle.mml_convergence.proofs.{SumsLemmas.count_none, SumsLemmas.count_some, RestLemmas.stable_final, RoundsLemmas.rounds_end, RoundsLemmas.rounds_fewer}
 use Rattle.mml_convergence.proofs.ServedLemmas.{IsRun, run_parts, first_legal, first_of_step, stable_end}
 use Rattle.mml_tally.specs.Rounds.{is_round, rounds_from, rounds_in}
 
@@ -84,7 +84,7 @@ rounds_most (suc k) r w all es fs is run goes_on rounds =
     let cs = rounds.0 in
     let ds = rounds.1 in
     let whole : all ≡ (es ++ cs) ++ ds = is ∙ ap (λ l. es ++ l) rounds.2 ∙ sym (append_assoc es cs ds) in
-    let round : is_round w (es ++ cs) ≡ true = grind (arith, nat_tests, eq-eqb, count_none, same_size, served_earlier) in
+    let round : is_round w (es ++ cs) ≡ true = grind (arith, nat_tests, eq-eqb, count_none, size-world_of, served_earlier) in
     let begun = false_from_ne_true (is_round w []) (λ first. goes_on (stable_end r w all run (λ i lt. not-true _ (round_is w [] first i lt)))) in
     subst (λ l. suc k ≤ rounds_in w l) (sym whole) (first_counted k w (es ++ cs) [] (es ++ cs) ds refl round begun (λ front rest cut.
     let v = world_of w front in

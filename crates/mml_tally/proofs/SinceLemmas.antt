@@ -11,9 +11,10 @@ use Rattle.mml_rules.specs.{Configuration.Configuration, Configuration.IsLawful,
 use Rattle.mml_rules.proofs.MeaningLemmas.{privileged-means}
 use Rattle.mml_lab.specs.{Labs.LabValue, Labs.IsLab, Labs.link_count, Labs.links_below, Rosters.RosterValue}
 use Rattle.mml_board.specs.{declared.event.Event.Event, World.World, World.IsWorld, World.size, World.configuration, World.opening_of, Events.after, Runs.is_legal_list, Runs.world_of}
+use Rattle.mml_board.proofs.RunsLemmas.{size-world_of}
 use Rattle.mml_board.proofs.WorldLemmas.{length-moved_registers}
 use Rattle.mml_convergence.specs.{Runs.is_of_step, Moves.applied_over, Potential.whole_potential, Courtships.most_courtships, Courtships.courting_potential, Rounds.rounds_for}
-use Rattle.mml_convergence.proofs.{AppliedLemmas.Falls, AppliedLemmas.event_pays, AppliedLemmas.network_most, WholePotentialLemmas.whole_fell, RestLemmas.same_size, SumsLemmas.count_some}
+use Rattle.mml_convergence.proofs.{AppliedLemmas.Falls, AppliedLemmas.event_pays, AppliedLemmas.network_most, WholePotentialLemmas.whole_fell, SumsLemmas.count_some}
 use Rattle.mml_convergence.proofs.{WholeLemmas.courting_fell, WholeLemmas.courting_most, ServedLemmas.IsRun, ServedLemmas.run_parts, ServedLemmas.run_end, ServedLemmas.first_of_step}
 use Rattle.mml_tally.specs.{Moves.fate_of, Moves.moves_from, declared.granted_move.Move.Move, Marks.is_applied, Bounds.bounds_of, Rounds.rounds_in, Rounds.rounds_after, Rounds.rounds_since}
 use Rattle.mml_tally.specs.Runs.{last_change, is_change, is_fate_after, is_applied_after, run_of}
@@ -134,16 +135,16 @@ run_moves r w es n run le = (
     last = world_of w es
 
     courted : applied_over w es + courting_potential (configuration last) ≤ 3 * size last + 2 * most_courtships (size last)
-    courted = grind (arith, nat_tests, paid courting_potential courting_fell r w es run, courting_most (configuration w), same_size w es)
+    courted = grind (arith, nat_tests, paid courting_potential courting_fell r w es run, courting_most (configuration w), size-world_of w es)
 
     linked : applied_over w es + whole_potential (configuration last) ≤ 2 * link_count last.network + 3 * size last
     linked =
         let spent = paid whole_potential whole_fell r w es run in
-        omega (arith, spent, same_size w es, same_links w es run.of_step, network_most w.network run.world.network)
+        omega (arith, spent, size-world_of w es, same_links w es run.of_step, network_most w.network run.world.network)
 
 run_rounds : (r : RosterValue) (w : World) (es : List Event) → IsRun r w es → IsWithin (rounds_in w es) (bounds_of (world_of w es)).rounds (world_of w es)
 run_rounds r w es run =
-    subst (λ n. IsWithin (rounds_in w es) (rounds_for n) (world_of w es)) (sym (same_size w es)) (run_within r w es run, run_rests r w es run)
+    subst (λ n. IsWithin (rounds_in w es) (rounds_for n) (world_of w es)) (sym (size-world_of w es)) (run_within r w es run, run_rests r w es run)
 
 module _ (lab : LabValue) (es : List Event) (known : IsLab lab) (legal : is_legal_list lab.roster (opening_of lab.network) es ≡ true) where
   s : Since lab.roster (opening_of lab.network) 0 1 es

@@ -5,9 +5,8 @@ use Rattle.std.proofs.Common.{◌≡◌, ℕ, ◌+◌, Bool, not, ◌&&◌, eqb,
 use Rattle.mml_ids.specs.{Sets.those_below, inside.WordsLemmas.has_empty, inside.WordsLemmas.same_ranks, inside.WordsLemmas.has-those_below}
 use Rattle.mml_rules.specs.Rules.{is_privileged}
 use Rattle.mml_board.specs.{declared.event.Event.Event, World.World, World.size, World.configuration, Events.is_chosen, Events.chosen_nodes, Events.after, Runs.world_of}
-use Rattle.mml_board.proofs.{KeptLemmas.len-those_below, RunsLemmas.world_of-append, WorldLemmas.size-after}
+use Rattle.mml_board.proofs.{KeptLemmas.len-those_below, RunsLemmas.world_of-append, WorldLemmas.size-after, RunsLemmas.size-world_of}
 use Rattle.mml_convergence.specs.{Moves.is_close, Rounds.is_served}
-use Rattle.mml_convergence.proofs.RestLemmas.{same_size}
 use Rattle.mml_tally.specs.{Rounds.rounds_from, Rounds.rounds_in, inside.Waiting.privileged_nodes, inside.Waiting.moved_nodes, inside.Waiting.still_waiting, inside.Waiting.count_rounds}
 use Rattle.std.specs.FinSet as sets
 
@@ -56,7 +55,7 @@ waiting_more w fs e = same_ranks _ _ (λ q.
     let now = has-those_below (size w) (λ i. not (is_served i w (fs ++ e ∷ []))) q in
     let before = has-those_below (size w) (λ i. not (is_served i w fs)) q in
     let still = has-still v (waiting w fs) e q in
-    grind (arith, nat_tests, now, before, served_more q w fs e, still, has-moved v e q, has-privileged (after v e) q, same_size w fs, size-after v e))
+    grind (arith, nat_tests, now, before, served_more q w fs e, still, has-moved v e q, has-privileged (after v e) q, size-world_of w fs, size-after v e))
 
 -- ---- the rounds
 
