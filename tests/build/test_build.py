@@ -7,12 +7,13 @@ import re
 import shutil
 import signal
 import subprocess
+import sys
 import unittest
 import unittest.mock
 from pathlib import Path
 
 from tests.build.clone import LIMIT, InClone, is_there
-from tools.build.crates import expected, lines, needed
+from tools.build.crates import TOP, expected, lines, needed
 from tools.build.progress import Progress, chains
 from tools.build.place import Place
 from tools.build.proving import at_once_of, jobs_of, most_processes, processes_of, processors, width_for
@@ -20,6 +21,23 @@ from tools.build.running import Run, Width
 
 USES: dict[str, list[str]] = {"a": [], "b": [], "c": ["a"], "d": ["b"], "e": ["c", "d"]}
 SECONDS = {"a": 10.0, "b": 100.0, "c": 50.0, "d": 20.0, "e": 5.0}
+# A program that gets a signal while it deletes an object, and pauses then as a build does.
+DELETES = """
+import os, signal
+from tools.build.running import Stopped, note_signals, pause
+
+class Signalling:
+    def __del__(self):
+        os.kill(os.getpid(), signal.SIGTERM)
+        sum(range(1000))
+
+note_signals()
+Signalling()
+try:
+    pause()
+except Stopped as stopped:
+    print("stopped by", stopped.number)
+"""
 
 
 class Estimates(unittest.TestCase):
@@ -102,6 +120,13 @@ class Estimates(unittest.TestCase):
         self.assertTrue(set(crates) < set(lines()))
         self.assertNotIn("mml_server", crates)
         self.assertGreater(min(expected(crates).values()), 0)
+
+
+class Signals(unittest.TestCase):
+    def test_a_signal_that_comes_while_an_object_is_deleted_ends_the_build(self) -> None:
+        """Python ignores exceptions that are raised while it deletes an object, and goes on."""
+        done = subprocess.run([sys.executable, "-B", "-c", DELETES], cwd=TOP, capture_output=True, text=True, timeout=LIMIT, check=False)
+        self.assertEqual((done.stdout, done.stderr), (f"stopped by {signal.SIGTERM.value}\n", ""))
 
 
 class Builds(InClone):

@@ -21,7 +21,7 @@ from tools.build.crates import TOP, Uses, expected, needed
 from tools.build.place import room
 from tools.build.progress import Progress, duration_text
 from tools.build.proving import Proving, at_once_of, jobs_of, processors
-from tools.build.running import Screen, Stopped, can_keep, end_with_parent, raise_on_signals
+from tools.build.running import Screen, Stopped, can_keep, end_with_parent, note_signals, raise_if_signalled
 from tools.build.sources import is_built, program_of, sum_of_sources, write_record
 
 WRONG = re.compile(r"error|: (not proved|no proof)|NOT PROVED|run rt fmt|^rt: (FAILED|note|the disk)")
@@ -127,9 +127,11 @@ def main(words: list[str]) -> int:
     if words[:1] == ["--built"]:
         return tell_built(words[1:])
     end_with_parent()
-    raise_on_signals()
+    note_signals()
     try:
-        return build(words)
+        status = build(words)
+        raise_if_signalled()
+        return status
     except Stopped as stopped:
         say("stopped; what is proved is kept, and the next build continues from there" if can_keep() else
             "stopped; the next build begins from nothing, since this toolchain reuses no proofs of earlier builds")

@@ -21,9 +21,8 @@ from pathlib import Path
 from tools.build.crates import Uses, with_those_below
 from tools.build.place import Place, Room, take, take_library
 from tools.build.progress import Progress
-from tools.build.running import Run, Screen, Width, can_keep
+from tools.build.running import Run, Screen, Width, can_keep, pause
 
-POLL = 0.2  # seconds between two checks of the runs
 MOST_JOBS = 4  # processes of a proof, at most
 MEMORY = 4_000_000_000  # bytes that have to be free for one more proof side by side
 
@@ -117,7 +116,7 @@ class Proving:
                 run.follow(self.progress, self.screen)
                 return run.has_ended()
             self.screen.show(self.progress)
-            time.sleep(POLL)
+            pause()
             run.follow(self.progress, self.screen)
         run.follow(self.progress, self.screen)
         return True
@@ -129,7 +128,7 @@ class Proving:
         while len(self.progress.proved) < len(self.crates):
             self.begin()
             self.screen.show(self.progress)
-            time.sleep(POLL)
+            pause()
             for crate, run in [*self.runs.items()]:
                 if run.has_ended():
                     del self.runs[crate]

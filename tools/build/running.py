@@ -1,4 +1,8 @@
-"""Runs of `rt ci`, side by side, with their progress line. A signal ends them."""
+"""Runs of `rt ci`, side by side, with their progress line. A signal ends them.
+
+The handler of a signal only notes it, and `pause` raises the exception. An exception that the handler raises could be
+lost, since Python ignores it if it comes while an object is deleted.
+"""
 from __future__ import annotations
 
 import contextlib
@@ -10,9 +14,9 @@ import signal
 import subprocess
 import sys
 import time
+from collections.abc import Callable
 from enum import Enum
 from pathlib import Path
-from types import FrameType
 
 from tools.build.place import Place
 from tools.build.progress import Progress
@@ -20,6 +24,7 @@ from tools.build.wide import ALONE
 
 ENDING = (signal.SIGINT, signal.SIGTERM, signal.SIGHUP)
 PR_SET_PDEATHSIG = 1
+POLL = 0.2  # seconds between two checks of the runs
 PATIENCE = 10.0  # seconds that `rt ci` has to end after a signal
 LATER = 5  # the niceness that is added to a proof for which the longest chain doesn't wait
 WIDE = Path(__file__).with_name("wide.py")
@@ -27,10 +32,11 @@ PROVER = "rattle"  # the name of a process that proves
 PROVED = re.compile(r"^rt: (\w+) (?:proved|(is kept): .*)$", re.MULTILINE)
 NOT_KEPT = re.compile(r"^rt: note: .*(nothing is kept|is not kept)", re.MULTILINE)
 KEPT = b"is kept"  # `rt` prints these words for a crate that an earlier run proved
+came: list[int] = []  # the numbers of the signals that were noted, in the order in which they came
 
 
 class Stopped(Exception):
-    """Raised when a signal ends the build."""
+    """Raised if a signal is to end the build."""
 
     def __init__(self, number: int) -> None:
         """`number` is that of the signal."""
@@ -46,18 +52,29 @@ def can_keep() -> bool:
     return any(KEPT in it.read_bytes() for it in rt.parent.glob("rt*") if it.is_file())
 
 
-def raise_on_signals() -> None:
-    """Makes signals that end a process raise `Stopped` from now on, except for those that the caller of this process
+def handle_signals(handler: Callable[[int, object], object] | signal.Handlers) -> None:
+    """Makes this the handler of the signals that end a process, except for those that the caller of this process
     ignores."""
-    def stop(number: int, _: FrameType | None) -> None:
-        """Raises `Stopped`, and ignores all further signals."""
-        for each in ENDING:
-            signal.signal(each, signal.SIG_IGN)
-        raise Stopped(number)
-
     for each in ENDING:
         if signal.getsignal(each) is not signal.SIG_IGN:
-            signal.signal(each, stop)
+            signal.signal(each, handler)
+
+
+def note_signals() -> None:
+    """Notes signals that end a process from now on. They no longer end it."""
+    handle_signals(lambda number, _: came.append(number))
+
+
+def raise_if_signalled() -> None:
+    """Raises `Stopped` if a signal was noted."""
+    if came:
+        raise Stopped(came[0])
+
+
+def pause() -> None:
+    """Waits for POLL seconds. Raises `Stopped` if a signal was noted by then."""
+    time.sleep(POLL)
+    raise_if_signalled()
 
 
 def end_with_parent() -> None:
@@ -65,10 +82,16 @@ def end_with_parent() -> None:
     ctypes.CDLL(None, use_errno=True).prctl(PR_SET_PDEATHSIG, signal.SIGTERM, 0, 0, 0)
 
 
-def begin_at_low_priority() -> None:
-    """Calls `end_with_parent`, and lowers the priority of this process, because others are more urgent. If the system
-    shares processors among sessions, only the session's priority has an effect, so that is lowered too."""
+def begin() -> None:
+    """Makes signals end this process again, and calls `end_with_parent`."""
+    handle_signals(signal.SIG_DFL)
     end_with_parent()
+
+
+def begin_at_low_priority() -> None:
+    """Calls `begin`, and lowers the priority of this process, because others are more urgent. If the system shares
+    processors among sessions, only the session's priority has an effect, so that is lowered too."""
+    begin()
     os.nice(LATER)
     with contextlib.suppress(OSError):
         Path("/proc/self/autogroup").write_text(str(LATER), encoding="ascii")
@@ -127,7 +150,7 @@ class Run:
             self.process = subprocess.Popen(
                 [*words, "ci"], cwd=place.repository, stdin=subprocess.DEVNULL, stdout=output, stderr=subprocess.STDOUT,
                 env={**os.environ, **jobs, "TMPDIR": str(place.temporary)}, start_new_session=True,
-                preexec_fn=end_with_parent if is_first else begin_at_low_priority,
+                preexec_fn=begin if is_first else begin_at_low_priority,
             )
 
     def follow(self, progress: Progress, screen: Screen) -> None:
