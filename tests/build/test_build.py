@@ -38,6 +38,18 @@ try:
 except Stopped as stopped:
     print("stopped by", stopped.number)
 """
+# A build that has nothing more to prove when a signal comes.
+ENDS = """
+import os, signal
+import tools.build.__main__ as it
+
+def build(_):
+    os.kill(os.getpid(), signal.SIGTERM)
+    return 0
+
+it.build = build
+it.main(["mml_host"])
+"""
 
 
 class Estimates(unittest.TestCase):
@@ -123,10 +135,20 @@ class Estimates(unittest.TestCase):
 
 
 class Signals(unittest.TestCase):
+    """Signals that come at a moment in which the build doesn't look for them."""
+
+    def run_program(self, text: str) -> subprocess.CompletedProcess[str]:
+        """Runs the Python program `text` at the top of this clone to its end. Returns its result."""
+        return subprocess.run([sys.executable, "-B", "-c", text], cwd=TOP, capture_output=True, text=True, timeout=LIMIT, check=False)
+
     def test_a_signal_that_comes_while_an_object_is_deleted_ends_the_build(self) -> None:
         """Python ignores exceptions that are raised while it deletes an object, and goes on."""
-        done = subprocess.run([sys.executable, "-B", "-c", DELETES], cwd=TOP, capture_output=True, text=True, timeout=LIMIT, check=False)
+        done = self.run_program(DELETES)
         self.assertEqual((done.stdout, done.stderr), (f"stopped by {signal.SIGTERM.value}\n", ""))
+
+    def test_a_signal_that_comes_at_the_end_of_the_build_still_ends_it(self) -> None:
+        """Otherwise a command that builds the program would do its work after a Ctrl-C."""
+        self.assertEqual(self.run_program(ENDS).returncode, -signal.SIGTERM)
 
 
 class Builds(InClone):
