@@ -6,8 +6,7 @@ use Rattle.mml_rules.specs.declared.rule.Rule.{Rule}
 use Rattle.mml_lab.specs.{Labs.LabValue, Labs.IsLab, Rosters.RosterValue}
 use Rattle.mml_board.specs.{declared.event.Event.Event, World.World, World.IsWorld, World.chosen_at, World.opening_of, Events.is_legal, Events.after, Runs.is_legal_list, Runs.world_of}
 use Rattle.mml_board.proofs.{WorldLemmas.after-world, WorldLemmas.none_at, WorldLemmas.chosen_node, EventsLemmas.dropped, ClausesLemmas.fit, ClausesLemmas.legal_possible}
-use Rattle.mml_audit.proofs.AuditMeaningLemmas.{reached_first}
-use Rattle.mml_tally.specs.Meaning.{leaves}
+use Rattle.mml_tally.{specs.Meaning.leaves, proofs.StudentsLemmas.opening-world}
 use Rattle.mml_laws.specs.Choices.{IsGrantedLast}
 use Rattle.mml_board.specs.declared.event.Event.TheVariants as event
 
@@ -53,12 +52,9 @@ forth r w [] s later i q is legal keep =
     grind (arith, nat_tests, and_parts, after_legal r w e is, fit w e, legal_possible r w e, ltb-true, get_or-set_same, stays_on r (after w e) later i q)
 forth r w (e ∷ before) s later i q is legal keep = grind (arith, nat_tests, and_parts, after_legal r w e is, forth r (after w e) before s later i q)
 
-pub opening : (lab : LabValue) → IsLab lab → IsWorld (opening_of lab.network)
-opening lab is = (reached_first lab is).world.world
-
 pub granted_last : (lab : LabValue) (es : List Event) (i : ℕ) (q : Rule) → IsLab lab → is_legal_list lab.roster (opening_of lab.network) es ≡ true
     → (chosen_at (world_of (opening_of lab.network) es).chosen i ≡ Some q) ↔ IsGrantedLast es i q
 granted_last lab es i q is legal = (
-  grind (arith, nat_tests, back lab.roster (opening_of lab.network) es i q (opening lab is) legal, none_at (length lab.network.registers) i),
-  λ g. rw g.order (forth lab.roster (opening_of lab.network) g.before g.owner g.later i q (opening lab is) (rw g.order at legal) g.leave),
+  grind (arith, nat_tests, back lab.roster (opening_of lab.network) es i q (opening-world lab is) legal, none_at (length lab.network.registers) i),
+  λ g. rw g.order (forth lab.roster (opening_of lab.network) g.before g.owner g.later i q (opening-world lab is) (rw g.order at legal) g.leave),
 )

@@ -14,7 +14,8 @@ use Rattle.mml_stable.{specs.Listed.IsMaximalMatching, specs.Reports.report_of, 
 use Rattle.mml_convergence.specs.{Moves.applied_over, Moves.count_closes, Rest.IsOver, Runs.is_of_step}
 use Rattle.mml_convergence.proofs.{AppliedLemmas.moves_bounded, AppliedLemmas.closes_bounded, RestLemmas.ended}
 use Rattle.mml_window.specs.Rulings.{ruling_while}
-use Rattle.mml_laws.{specs.Ends.GrantsNoStep, proofs.ChoicesLemmas.opening, proofs.RuledLemmas.ruled_granted}
+use Rattle.mml_tally.proofs.StudentsLemmas.{opening-world}
+use Rattle.mml_laws.{specs.Ends.GrantsNoStep, proofs.RuledLemmas.ruled_granted}
 use Rattle.mml_board.specs.declared.event.Event.TheVariants as event
 
 -- ---- the world after a legal list of events
@@ -23,7 +24,7 @@ use Rattle.mml_board.specs.declared.event.Event.TheVariants as event
 in_lab : (lab : LabValue) → IsLab lab → (es : List Event) → is_legal_list lab.roster (opening_of lab.network) es ≡ true
     → IsWorldOf lab.ids (world_in lab es)
 in_lab lab is es legal =
-    record { world = list-world lab.roster (opening_of lab.network) es (opening lab is) legal; nodes = sym (size-world_of (opening_of lab.network) es ∙ is.nodes) }
+    record { world = list-world lab.roster (opening_of lab.network) es (opening-world lab is) legal; nodes = sym (size-world_of (opening_of lab.network) es ∙ is.nodes) }
 
 -- ---- a house in which neither a move nor a close would be granted
 
@@ -54,7 +55,7 @@ over_is_stable bytes lab es w halted spelled legal here room running none =
     let place : (world_in lab es).place < lab.events = omega (arith, place-world_of (opening_of lab.network) es) in
     let done = over lab is (world_in lab es) there halted place running (subst (GrantsNoStep lab halted) here none) in
     let owned = λ (i : ℕ) (lt : i < size (opening_of lab.network)). (one_or_two bytes lab i spelled (omega (arith, lt, is.nodes))).0 in
-    let stable = (ended lab.roster (opening_of lab.network) es (opening lab is) owned legal done).0 in
+    let stable = (ended lab.roster (opening_of lab.network) es (opening-world lab is) owned legal done).0 in
     subst (λ (v : World). IsStable (configuration v) × IsMaximalMatching (configuration v) (report_of v).pairs) (sym here)
     (stable, listed_matching _ there.world.network.lawful ((stable-means (configuration (world_in lab es))).1 stable))
 

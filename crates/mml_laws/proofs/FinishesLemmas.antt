@@ -15,8 +15,9 @@ use Rattle.mml_codec.proofs.{CanonicalLemmas.request_in-canonical, GreetingsLemm
 use Rattle.mml_hall.specs.{Turns.State, Turns.TurnOf, Turns.nothing, Turns.known_on, Turns.with_known, Turns.with_event, Turns.opening, Turns.outcome_of, Halls.IsHall}
 use Rattle.mml_hall.proofs.HallsLemmas.{IsHall-opening, IsHall-event, IsHall-known, place-is}
 use Rattle.mml_record.proofs.CountLemmas.{number_list}
+use Rattle.mml_tally.proofs.StudentsLemmas.{opening-world}
 use Rattle.mml_laws.specs.Finishes.{line_for, hello_of, is_granted, FinishesByAsking}
-use Rattle.mml_laws.proofs.{GreetedLemmas.plain_so, GreetedLemmas.hall_judged, EndsLemmas.legal_takes_place, ChoicesLemmas.opening as world_opening, RestWithinLemmas.events_few}
+use Rattle.mml_laws.proofs.{GreetedLemmas.plain_so, GreetedLemmas.hall_judged, EndsLemmas.legal_takes_place, RestWithinLemmas.events_few}
 use Rattle.mml_laws.proofs.AskingLinesLemmas.{bye_comes, hello_comes, command_comes}
 use Rattle.mml_codec.specs.declared.reply.Reply.TheVariants as reply
 use Rattle.mml_codec.specs.declared.request.Request.TheVariants as requests
@@ -107,4 +108,4 @@ pub lab_can_finish : (bytes : List ℕ) (lab : LabValue) → lab_of bytes ≡ Ok
     × FinishesByAsking lab (opening lab) (events_to_rest (length lab.ids) (link_count lab.network)) es rs end
 lab_can_finish bytes lab spelled room =
     let is = lawful bytes lab spelled in
-    can_finish lab (opening lab) (IsHall-opening lab is (world_opening lab is)) refl (λ i lt. (one_or_two bytes lab i spelled lt).0) (omega (arith, room))
+    can_finish lab (opening lab) (IsHall-opening lab is (opening-world lab is)) refl (λ i lt. (one_or_two bytes lab i spelled lt).0) (omega (arith, room))

@@ -13,9 +13,10 @@ use Rattle.mml_window.proofs.{ListLemmas.nodes_in, PrefixLemmas.prefix_length}
 use Rattle.mml_window.specs.{Windows.WindowValue, Windows.window, Tallies.times, Tallies.told_of, Tallies.IsEachOnceFrom}
 use Rattle.mml_hall.specs.{Transcripts.Transcript, Halls.IsHall, Turns.State, Turns.RequestLine, Turns.Run, Turns.known_on, ScriptLines.IsScriptLine, ScriptLines.request_on}
 use Rattle.mml_hall.proofs.TurnsLemmas.{others_turn}
+use Rattle.mml_tally.proofs.StudentsLemmas.{opening-world}
 use Rattle.mml_laws.specs.{Served.Answered, Served.AreConversations, Served.AreHeard, Served.AreWritten, OneScript.answers_on, OneScript.AreOn, OneScript.IsOneScript, OneScript.on_one_connection}
 use Rattle.mml_laws.specs.{OneScript.state_after}
-use Rattle.mml_laws.proofs.{HallStepsLemmas.HallStep, HallStepsLemmas.IsAfter, HallStepsLemmas.Leads, ChoicesLemmas.opening, ConversationsLemmas.Fine, ConversationsLemmas.house_timeline}
+use Rattle.mml_laws.proofs.{HallStepsLemmas.HallStep, HallStepsLemmas.IsAfter, HallStepsLemmas.Leads, ConversationsLemmas.Fine, ConversationsLemmas.house_timeline}
 use Rattle.mml_laws.proofs.WeavingLemmas.{Item, upto, on, on_hit, on_skip, IsWhole, whole, Among, Steps, EachSays, each_steps}
 
 -- ---- what a timeline says, as lines of a script
@@ -80,7 +81,7 @@ lawful_after : (lab : LabValue) (begun all : List Event) → IsLab lab → IsPre
 lawful_after lab begun all is begins legal few =
     let first : is_legal_in lab begun ≡ true =
     legal-beginning lab.roster (opening_of lab.network) begun begins.0 (ap (is_legal_in lab) begins.1 ∙ legal) in
-    let world = list-world lab.roster (opening_of lab.network) begun (opening lab is) first in
+    let world = list-world lab.roster (opening_of lab.network) begun (opening-world lab is) first in
     let members = All-replicate (λ (x : Option Who). IfSome x (IsPrincipal lab.roster)) lab.sessions None tt in
     grind (arith, nat_tests, is, world, nodes_in lab begun is, members, prefix_length begun all begins, length-replicate)
 

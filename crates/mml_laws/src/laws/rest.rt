@@ -22,7 +22,7 @@ ghost use Rattle.mml_convergence.specs.Most.{events_to_rest};
 /// an owner and k events are allowed, such a run comes to rest before it reaches the limit. As long as a node is
 /// privileged, there is room for one more event. For at most 256 nodes, k is at most 67072, and a lab may allow 100000
 /// events.
-#[tactic(auto, using(crate::proofs::RestWithinLemmas::places, crate::proofs::RestWithinLemmas::events_few, crate::proofs::RestWithinLemmas::fewer, crate::proofs::RestWithinLemmas::events_most, crate::proofs::ChoicesLemmas::opening, mml_lab_file::proofs::LabMeaningLemmas::lawful, mml_lab_file::proofs::OwnersLemmas::one_or_two))]
+#[tactic(auto, using(crate::proofs::RestWithinLemmas::places, crate::proofs::RestWithinLemmas::events_few, crate::proofs::RestWithinLemmas::fewer, crate::proofs::RestWithinLemmas::events_most, mml_audit::proofs::AuditMeaningLemmas::reached_first, mml_lab_file::proofs::LabMeaningLemmas::lawful, mml_lab_file::proofs::OwnersLemmas::one_or_two))]
 pub fn rest_comes_within_a_limit()
     ensures few { (r : RosterValue) (w : World) (es : List Event) → IsWorld w →
         is_legal_list r w es ≡ true → list_all is_grant_or_close es ≡ true →
